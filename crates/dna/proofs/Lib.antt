@@ -1,0 +1,7 @@
+pub mod Text
+pub mod Letters
+pub mod Order
+pub mod Rotations
+pub mod Reversal
+pub mod Iupac
+pub mod Calls

@@ -1,0 +1,2 @@
+pub mod Kmer
+pub mod Calls

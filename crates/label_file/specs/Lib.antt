@@ -1,0 +1,3 @@
+pub mod LabelFile
+pub mod Output
+pub mod Examples

@@ -1,0 +1,1 @@
+// The label file that the program reads, and what the program prints.

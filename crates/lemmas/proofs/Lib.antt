@@ -1,0 +1,4 @@
+pub mod Tables
+pub mod Tests
+pub mod Lists
+pub mod Building

