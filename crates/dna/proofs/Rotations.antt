@@ -1,20 +1,17 @@
--- Rotations of a text, and the two starts whose comparison finds the least. Assumes nothing.
+-- Rotations of a text place by place, and what the least start is. Assumes nothing.
 use mathlib.Core.Path.{_≡_, refl, sym, ap, _∙_}
-use mathlib.Core.Logic.{_⊎_, inl, inr}
 use mathlib.Core.Bool.{Bool, true, false, cond}
 use mathlib.Core.List.{List, _++_}
 use Prim.Native.Nat.{ℕ, zero, suc, _+_, _-_, _≤_, _<_, _%_}
-use native.Mathlib.Nat.{not-suc-le-zero, mod-lt, mod-eq-of-lt, mod-eq-sub-mod, mod-mod, mod-add-mod, add-mod-right}
+use native.Mathlib.Nat.{not-suc-le-zero, mod-eq-of-lt, mod-eq-sub-mod, add-mod-right}
 use native.Mathlib.Decide.{decLt, ℕ-discrete}
 use native.Mathlib.Omega.{arith}
-use borrow.Author.Count.{below-more}
 use lib.ListN.{length, getD, take, drop, length-append, length-take, length-drop, List·getD-append}
-use lib.Seq.{ext-getD, getD-append-add, getD-drop, getD-take}
-use Rattle.lemmas.proofs.Tests.{never}
+use lib.Seq.{getD-append-add, getD-drop, getD-take}
 use Rattle.dna.specs.Order.{before, rotation, leastTo, leastStart}
-use Rattle.dna.proofs.Order.{before-irrefl, before-asym, before-le, before-at}
+use Rattle.dna.proofs.Order.{before-irrefl, before-asym, before-le}
 
--- the byte at a place, counted round and round
+-- The byte at a place, counted round and round.
 abbrev pub at : List ℕ → ℕ → ℕ
 at s x = getD s (x % length s) 0
 
@@ -36,8 +33,7 @@ rotation-at s p t hp ht = go (decLt (p + t) (length s))
         let g : getD (drop p s ++ take p s) (length (drop p s) + (p + t - length s)) 0 ≡ getD (take p s) (p + t - length s) 0 = getD-append-add (drop p s) (take p s) (p + t - length s) 0 in
         (rw e at g) ∙ getD-take p s (p + t - length s) 0 (omega arith) ∙ rw (mod-eq-sub-mod u, mod-eq-of-lt v)
 
--- ---- what the least start is
-
+-- Of the starts 0 to n, l is the smallest whose rotation is least.
 pub record Least (s : List ℕ) (n l : ℕ) : Type 0 where
   pub within : l ≤ n
   pub least : (q : ℕ) → q ≤ n → before (rotation s q) (rotation s l) ≡ false
@@ -70,129 +66,6 @@ least-to s (suc n) = go (least-to s n) (before (rotation s (suc n)) (rotation s 
 pub least-within : (s : List ℕ) → 0 < length s → leastStart s < length s
 least-within s h = omega (arith, least-to s (length s - 1) .within)
 
--- ---- the pointers
-
-less-at : (s : List ℕ) (p q m : ℕ) → 0 < length s → m < length s → ((u : ℕ) → u < m → at s (p + u) ≡ at s (q + u)) → at s (p + m) < at s (q + m)
-    → before (rotation s (p % length s)) (rotation s (q % length s)) ≡ true
-less-at s p q m long hm f h =
-    let hp : p % length s < length s = mod-lt p long in
-    let hq : q % length s < length s = mod-lt q long in
-    let gp : (u : ℕ) → u < length s → getD (rotation s (p % length s)) u 0 ≡ at s (p + u) = λ u l. rotation-at s (p % length s) u hp l ∙ rw (mod-add-mod p (length s) u) in
-    let gq : (u : ℕ) → u < length s → getD (rotation s (q % length s)) u 0 ≡ at s (q + u) = λ u l. rotation-at s (q % length s) u hq l ∙ rw (mod-add-mod q (length s) u) in
-    before-at (rotation s (p % length s)) (rotation s (q % length s)) m
-    (omega (arith, rotation-length s (p % length s) (omega arith)))
-    (omega (arith, rotation-length s (q % length s) (omega arith)))
-    (λ u l. gp u (omega arith) ∙ f u l ∙ sym (gq u (omega arith)))
-    (rw (gp m hm, gq m hm) h)
-
--- the same round text from two places d apart
-round : (s : List ℕ) (i d : ℕ) → i ≤ length s → ((t : ℕ) → t < length s → at s (i + t) ≡ at s (i + d + t)) → (x : ℕ) → x < length s → at s x ≡ at s (x + d)
-round s i d hi f x hx = go (decLt x i)
-  where
-    go : Dec (x < i) → at s x ≡ at s (x + d)
-    go (yes l) =
-        let a : x + length s ≡ i + (x + length s - i) = omega arith in
-        let b : i + d + (x + length s - i) ≡ x + d + length s = omega arith in
-        sym (at-round s x) ∙ ap (at s) a ∙ f (x + length s - i) (omega arith) ∙ ap (at s) b ∙ at-round s (x + d)
-    go (no l) =
-        let a : x ≡ i + (x - i) = omega arith in
-        let b : i + d + (x - i) ≡ x + d = omega arith in
-        ap (at s) a ∙ f (x - i) (omega arith) ∙ ap (at s) b
-
-module _ (s : List ℕ) (l : ℕ) (w : Least s (length s - 1) l) (long : 0 < length s) where
-  -- from j on the text is smaller than from i on, at the k-th byte first: none of the k + 1 starts from i on is the least
-  pub beaten : (i j k : ℕ) → k < length s → ((t : ℕ) → t < k → at s (i + t) ≡ at s (j + t)) → at s (j + k) < at s (i + k) → (t : ℕ) → t ≤ k → i + t ≡ l → ⊥
-  beaten i j k hk f h t tk e =
-      let hl : i + t < length s = omega (arith, w .within) in
-      let x : (y u : ℕ) → y + t + u ≡ y + (t + u) = λ y u. omega arith in
-      let m : t + (k - t) ≡ k = omega arith in
-      let b : before (rotation s ((j + t) % length s)) (rotation s ((i + t) % length s)) ≡ true
-      = less-at s (j + t) (i + t) (k - t) long (omega arith) (λ u v. rw (x j u, x i u) (sym (f (t + u) (omega arith)))) (rw (x j (k - t), x i (k - t), m) h) in
-      let hq : (j + t) % length s < length s = mod-lt (j + t) long in
-      let z : before (rotation s ((j + t) % length s)) (rotation s ((i + t) % length s)) ≡ false
-      = rw (mod-eq-of-lt hl, e) (w .least ((j + t) % length s) (omega arith)) in
-      never (before (rotation s ((j + t) % length s)) (rotation s ((i + t) % length s))) b z
-
-  -- two places whose rotations are alike: the least start is not from the second on
-  pub alike : (i d : ℕ) → 0 < d → i + d < length s → ((t : ℕ) → t < length s → at s (i + t) ≡ at s (i + d + t)) → i + d ≤ l → ⊥
-  alike i d hd hi f hl =
-      let lw : l < length s = omega (arith, w .within) in
-      let r : (t : ℕ) → t < length s → getD (rotation s (l - d)) t 0 ≡ getD (rotation s l) t 0
-      = λ t h. rotation-at s (l - d) t (omega arith) h ∙ every (l - d + t) ∙ (let e : l - d + t + d ≡ l + t = omega arith in rw e) ∙ sym (rotation-at s l t lw h) in
-      let z : rotation s (l - d) ≡ rotation s l
-      = ext-getD 0 (rotation s (l - d)) (rotation s l) (rotation-length s (l - d) (omega arith) ∙ sym (rotation-length s l (omega arith))) (λ t h. r t (omega (arith, rotation-length s (l - d) (omega arith)))) in
-      never (before (rotation s l) (rotation s (l - d))) (w .first (l - d) (omega arith)) (rw z (before-irrefl (rotation s l)))
-    where
-      every : (x : ℕ) → at s x ≡ at s (x + d)
-      every x =
-          let h : x % length s < length s = mod-lt x long in
-          let a : at s x ≡ at s (x % length s) = rw (mod-mod x (length s)) in
-          let b : at s (x % length s + d) ≡ at s (x + d) = rw (mod-add-mod x (length s) d) in
-          a ∙ round s i d (omega arith) f (x % length s) h ∙ b
-
--- the least start is not before i unless it is j, nor before j unless it is i; k bytes from both are alike
-pub record Chase (s : List ℕ) (i j k : ℕ) : Type 0 where
-  pub apart : i ≡ j → ⊥
-  pub front : leastStart s < i → leastStart s ≡ j
-  pub back : leastStart s < j → leastStart s ≡ i
-  pub same : (t : ℕ) → t < k → at s (i + t) ≡ at s (j + t)
-
-pub chase-start : (s : List ℕ) → Chase s 0 1 0
-chase-start s = record { apart = λ e. omega arith; front = λ h. absurd (omega arith); back = λ h. omega arith; same = λ t h. absurd (not-suc-le-zero h) }
-
-pub chase-turn : {s : List ℕ} {i j k : ℕ} → Chase s i j k → Chase s j i k
-chase-turn c = record { apart = λ e. c .apart (sym e); front = c .back; back = c .front; same = λ t h. sym (c .same t h) }
-
-pub chase-on : (s : List ℕ) (i j k : ℕ) → Chase s i j k → at s (i + k) ≡ at s (j + k) → Chase s i j (k + 1)
-chase-on s i j k c e = record { apart = c .apart; front = c .front; back = c .back; same = below-more (λ t. at s (i + t) ≡ at s (j + t)) k (c .same) e }
-
-pub chase-skip : (s : List ℕ) (i j k i₁ : ℕ) → Chase s i j k → 1 < length s → k < length s → at s (j + k) < at s (i + k) → (i₁ ≡ j → ⊥) → (i₁ ≤ i + k + 1) ⊎ (i₁ ≤ j + 1) → Chase s i₁ j 0
-chase-skip s i j k i₁ c long hk h apart z = record { apart = apart; front = front z; back = λ v. absurd (gone v); same = λ t v. absurd (not-suc-le-zero v) }
-  where
-    lost : (t : ℕ) → t ≤ k → i + t ≡ leastStart s → ⊥
-    lost = beaten s (leastStart s) (least-to s (length s - 1)) (omega arith) i j k hk (c .same) h
-
-    gone : leastStart s < j → ⊥
-    gone v = lost 0 (omega arith) (omega (arith, c .back v))
-
-    past : leastStart s ≤ i + k → leastStart s ≡ j
-    past v = go (decLt (leastStart s) i)
-      where
-        go : Dec (leastStart s < i) → leastStart s ≡ j
-        go (yes u) = c .front u
-        go (no u) = absurd (lost (leastStart s - i) (omega arith) (omega arith))
-
-    front : (i₁ ≤ i + k + 1) ⊎ (i₁ ≤ j + 1) → leastStart s < i₁ → leastStart s ≡ j
-    front (inl u) v = past (omega arith)
-    front (inr u) v = go (decLt (leastStart s) j)
-      where
-        go : Dec (leastStart s < j) → leastStart s ≡ j
-        go (yes x) = absurd (gone x)
-        go (no x) = omega arith
-
--- one pointer is past the end, or all bytes from both are alike: the smaller of the two
-pub chase-out : (s : List ℕ) (i j k : ℕ) → Chase s i j k → 1 < length s → length s ≤ i → (j < i) × (j ≡ leastStart s)
-chase-out s i j k c long h =
-    let u : leastStart s < length s = omega (arith, least-to s (length s - 1) .within) in
-    let e = c .front (omega arith) in
-    (omega arith, sym e)
-
-pub chase-all : (s : List ℕ) (i j k : ℕ) → Chase s i j k → 1 < length s → i < j → j < length s → length s ≤ k → i ≡ leastStart s
-chase-all s i j k c long ij hj hk = go (decLt (leastStart s) j)
-  where
-    go : Dec (leastStart s < j) → i ≡ leastStart s
-    go (yes u) = sym (c .back u)
-    go (no u) =
-        let e : i + (j - i) ≡ j = omega arith in
-        absurd (alike s (leastStart s) (least-to s (length s - 1)) (omega arith) i (j - i) (omega arith) (omega arith) (λ t h. rw e (c .same t (omega arith))) (omega arith))
-
-pub chase-ends : (s : List ℕ) (i j k : ℕ) → Chase s i j k → 1 < length s → i < j → (length s ≤ j) ⊎ (length s ≤ k) → i ≡ leastStart s
-chase-ends s i j k c long ij (inl h) = chase-out s j i k (chase-turn c) long h .1
-chase-ends s i j k c long ij (inr h) = go (decLt j (length s))
-  where
-    go : Dec (j < length s) → i ≡ leastStart s
-    go (yes u) = chase-all s i j k c long ij u h
-    go (no u) = chase-out s j i k (chase-turn c) long (omega arith) .1
-
+-- It is 0 for lengths 0 and 1.
 pub short : (s : List ℕ) → length s ≤ 1 → 0 ≡ leastStart s
 short s h = omega (arith, least-to s (length s - 1) .within)
