@@ -1,0 +1,201 @@
+// Prints what the counters answer: each raised 0, 1, 15 and 16 times beside others that are empty, at 2 and full, and every edge
+// and pair of neighbours added to one word. The file `stdout` beside this holds what the Rust original answers to the same
+// questions (oracle/).
+use dna::Base;
+use libc::STDOUT_FILENO;
+use state::Counting;
+use state::EdgeFrequency;
+use state::Frequency;
+use state::Side;
+
+fn text(s: &[u8]) {
+    io::write_all(STDOUT_FILENO, s);
+}
+
+fn number(n: u32) {
+    text(b" ");
+    io::print_decimal(STDOUT_FILENO, n as u64);
+}
+
+fn test(t: bool) {
+    if t {
+        text(b" 1");
+    } else {
+        text(b" 0");
+    }
+}
+
+fn word(edges: EdgeFrequency) {
+    text(b" ");
+    io::print_hex(STDOUT_FILENO, edges.packed as u64, 8);
+}
+
+fn base(code: u32) -> Base {
+    match code {
+        0 => Base::A,
+        1 => Base::C,
+        2 => Base::G,
+        3 => Base::T,
+        4 => Base::N,
+        _ => Base::E,
+    }
+}
+
+fn side(number: u32) -> Side {
+    match number {
+        0 => Side::Front,
+        _ => Side::Back,
+    }
+}
+
+fn ask_side(edges: EdgeFrequency, side: Side, cutoff: u32) {
+    number(edges.edge_count(side, cutoff));
+    number(edges.edge_at(side, cutoff).bits() as u32);
+    test(edges.is_branching_side(side, cutoff));
+    test(edges.is_empty_side(side, cutoff));
+}
+
+fn ask(edges: EdgeFrequency, cutoff: u32) {
+    text(b"cutoff");
+    number(cutoff);
+    ask_side(edges, Side::Front, cutoff);
+    ask_side(edges, Side::Front.inverse(), cutoff);
+    test(edges.is_isolated(cutoff));
+    text(b"\n");
+}
+
+fn frequency(f: Frequency) {
+    match f {
+        Frequency::Count(n) => number(n),
+        Frequency::NoBase => text(b" R10"),
+    }
+}
+
+fn counting(c: Counting) {
+    match c {
+        Counting::Done(edges) => word(edges),
+        Counting::NoBase => text(b" R10"),
+    }
+    text(b"\n");
+}
+
+fn frequencies(edges: EdgeFrequency, side: Side) {
+    frequency(edges.frequency(side, 0));
+    frequency(edges.frequency(side, 1));
+    frequency(edges.frequency(side, 2));
+    frequency(edges.frequency(side, 3));
+}
+
+fn show(edges: EdgeFrequency) {
+    text(b"word");
+    word(edges);
+    frequencies(edges, Side::Front);
+    frequencies(edges, Side::Back);
+    text(b"\n");
+    ask(edges, 0);
+    ask(edges, 1);
+    ask(edges, 2);
+    ask(edges, 15);
+    ask(edges, 16);
+    ask(edges, 0xffffffff);
+}
+
+fn raised_once(packed: u32, slot: u32) -> u32 {
+    let edges = EdgeFrequency { packed };
+    match edges.add_edge(side(slot / 4), base(slot % 4)) {
+        Counting::Done(after) => after.packed,
+        Counting::NoBase => 0,
+    }
+}
+
+fn raised_times(packed: u32, slot: u32, times: u32) -> u32 {
+    let mut word = packed;
+    let mut i = 0;
+    while i < times {
+        word = raised_once(word, slot);
+        i += 1;
+    }
+    word
+}
+
+// How often a counter is raised where counter slot is raised n times and each other one as often as others says.
+fn times(counter: u32, slot: u32, n: u32, others: u32) -> u32 {
+    if counter == slot { n } else { others }
+}
+
+fn raised(slot: u32, n: u32, others: u32) -> EdgeFrequency {
+    let word = raised_times(0, 0, times(0, slot, n, others));
+    let word = raised_times(word, 1, times(1, slot, n, others));
+    let word = raised_times(word, 2, times(2, slot, n, others));
+    let word = raised_times(word, 3, times(3, slot, n, others));
+    let word = raised_times(word, 4, times(4, slot, n, others));
+    let word = raised_times(word, 5, times(5, slot, n, others));
+    let word = raised_times(word, 6, times(6, slot, n, others));
+    let word = raised_times(word, 7, times(7, slot, n, others));
+    EdgeFrequency { packed: word }
+}
+
+fn each_raised(n: u32, others: u32) {
+    show(raised(0, n, others));
+    show(raised(1, n, others));
+    show(raised(2, n, others));
+    show(raised(3, n, others));
+    show(raised(4, n, others));
+    show(raised(5, n, others));
+    show(raised(6, n, others));
+    show(raised(7, n, others));
+}
+
+fn limits(others: u32) {
+    each_raised(0, others);
+    each_raised(1, others);
+    each_raised(15, others);
+    each_raised(16, others);
+}
+
+fn add(edges: EdgeFrequency, to: u32, code: u32) {
+    text(b"add");
+    number(to);
+    number(code);
+    counting(edges.add_edge(side(to), base(code)));
+}
+
+fn adds(edges: EdgeFrequency, to: u32) {
+    add(edges, to, 0);
+    add(edges, to, 1);
+    add(edges, to, 2);
+    add(edges, to, 3);
+    add(edges, to, 4);
+    add(edges, to, 5);
+}
+
+fn update(edges: EdgeFrequency, front: u32, back: u32) {
+    text(b"update");
+    number(front);
+    number(back);
+    counting(edges.update_edges(base(front), base(back)));
+}
+
+fn updates(edges: EdgeFrequency, front: u32) {
+    update(edges, front, 0);
+    update(edges, front, 1);
+    update(edges, front, 2);
+    update(edges, front, 3);
+    update(edges, front, 4);
+    update(edges, front, 5);
+}
+
+fn main() {
+    limits(0);
+    limits(2);
+    limits(15);
+    let start = raised(1, 14, 3);
+    adds(start, 0);
+    adds(start, 1);
+    updates(start, 0);
+    updates(start, 1);
+    updates(start, 2);
+    updates(start, 3);
+    updates(start, 4);
+    updates(start, 5);
+}
