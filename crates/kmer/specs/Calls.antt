@@ -1,5 +1,5 @@
 -- What the calls on k-mers answer, refusals in their order: packing 1, 2, 3, the others 1, 14, 10, 9. Assumes nothing.
-use Prim.Native.Nat.{ℕ, _-_, _^_}
+use Prim.Native.Nat.{ℕ, _^_}
 use mathlib.Core.Bool.{Bool, cond, not}
 use mathlib.Core.List.{List, [], _∷_}
 use lib.Dec.{ltb}

@@ -1,2 +1,4 @@
 pub mod Kmer
+pub mod Bits
 pub mod Calls
+pub mod Says

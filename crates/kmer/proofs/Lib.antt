@@ -1,0 +1,16 @@
+pub mod Wide
+pub mod Moves
+pub mod Turned
+pub mod Swaps
+pub mod Halves
+pub mod Telling
+pub mod Verdicts
+pub mod Orders
+pub mod Places
+pub mod Packing
+pub mod Spelling
+pub mod Writing
+pub mod Strands
+pub mod Windows
+pub mod Texts
+pub mod Given

@@ -1,0 +1,118 @@
+-- A step of the swap network, `((y & e) << k) | ((y >> k) & e)` with e the k low bits of every field of k + k bits, exchanges
+-- the halves of each field; five such steps reverse the 32 base-4 digits of a word. Assumes nothing.
+use mathlib.Core.Path.{_≡_, refl, sym, ap, ap₂, _∙_, subst}
+use Prim.Native.Nat.{ℕ, zero, suc, _+_, _-_, _*_, _/_, _%_, _^_, _<_}
+use native.Mathlib.Nat.{mod-lt, mod-one, mod-eq-of-lt, add-mul, add-assoc, mul-assoc, mul-comm, lt-of-lt-of-le, lt-of-le-of-lt, le-add-right, mul-le-mul-right, zero-mul}
+use native.Mathlib.Omega.{arith}
+use lib.Arith.{digits-div, digits-mod}
+use lib.Pow.{pow-pos, pow-mono, split, shr-shr, shl-lt, mod-mod-pow, mod-pow-add, ones-lt}
+use lib.Bits.{bitAnd, bitOr, and-block, and-mask, and-zero-r, and-le-r, or-block, or-shifted}
+use Rattle.kmer.proofs.Wide.{four}
+use Rattle.kmer.proofs.Turned.{turned, turned-cat, turned-lt, same, same-lt}
+
+-- The k low bits of each of m fields of k + k bits.
+unfoldable pub evens : ℕ → ℕ → ℕ
+evens k zero = zero
+evens k (suc m) = evens k m * 2 ^ (k + k) + (2 ^ k - 1)
+
+-- In each of the m low fields of k + k bits, the two halves exchanged.
+unfoldable pub swaps : ℕ → ℕ → ℕ → ℕ
+swaps k zero y = zero
+swaps k (suc m) y = swaps k m (y / 2 ^ (k + k)) * 2 ^ (k + k) + (y % 2 ^ k * 2 ^ k + y / 2 ^ k % 2 ^ k)
+
+low-field : (k y e : ℕ) → bitAnd y (e * 2 ^ (k + k) + (2 ^ k - 1)) ≡ bitAnd (y / 2 ^ (k + k)) e * 2 ^ (k + k) + y % 2 ^ k
+low-field k y e =
+    ap (λ (n : ℕ). bitAnd n (e * 2 ^ (k + k) + (2 ^ k - 1))) (sym (split y (k + k)))
+    ∙ and-block (k + k) (y / 2 ^ (k + k)) e (y % 2 ^ (k + k)) (2 ^ k - 1) (mod-lt y (pow-pos (k + k)))
+    (lt-of-lt-of-le (ones-lt k) (pow-mono (le-add-right k k)))
+    ∙ ap (λ (n : ℕ). bitAnd (y / 2 ^ (k + k)) e * 2 ^ (k + k) + n) (and-mask (y % 2 ^ (k + k)) k ∙ mod-mod-pow y k k)
+
+shift-swap : (k y : ℕ) → y / 2 ^ k / 2 ^ (k + k) ≡ y / 2 ^ (k + k) / 2 ^ k
+shift-swap k y = shr-shr y k (k + k) ∙ ap (λ (e : ℕ). y / 2 ^ e) (sym (add-assoc k k k)) ∙ sym (shr-shr y (k + k) k)
+
+spread : (a p q r : ℕ) → (a * p + r) * q ≡ a * q * p + r * q
+spread a p q r =
+    add-mul (a * p) r q
+    ∙ ap (λ (n : ℕ). n + r * q) (mul-assoc a p q ∙ ap (λ (n : ℕ). a * n) (mul-comm p q) ∙ sym (mul-assoc a q p))
+
+swap-is : (k m y : ℕ) → bitOr (bitAnd y (evens k m) * 2 ^ k) (bitAnd (y / 2 ^ k) (evens k m)) ≡ swaps k m y
+unfolding evens swaps
+swap-is k zero y =
+    ap₂ (λ (p q : ℕ). bitOr (p * 2 ^ k) q) (and-zero-r y) (and-zero-r (y / 2 ^ k)) ∙ ap (λ (p : ℕ). bitOr p 0) (zero-mul (2 ^ k))
+swap-is k (suc m) y =
+    let e : ℕ = evens k m in
+    let a : ℕ = bitAnd (y / 2 ^ (k + k)) e in
+    let hi : y % 2 ^ k * 2 ^ k < 2 ^ (k + k) = shl-lt k k (mod-lt y (pow-pos k)) in
+    let lo : y / 2 ^ k % 2 ^ k < 2 ^ (k + k) = lt-of-lt-of-le (mod-lt (y / 2 ^ k) (pow-pos k)) (pow-mono (le-add-right k k)) in
+    ap₂ (λ (p q : ℕ). bitOr (p * 2 ^ k) q) (low-field k y e) (low-field k (y / 2 ^ k) e)
+    ∙ ap (λ (p : ℕ). bitOr p (bitAnd (y / 2 ^ k / 2 ^ (k + k)) e * 2 ^ (k + k) + y / 2 ^ k % 2 ^ k))
+    (spread a (2 ^ (k + k)) (2 ^ k) (y % 2 ^ k))
+    ∙ or-block (k + k) (a * 2 ^ k) (bitAnd (y / 2 ^ k / 2 ^ (k + k)) e) (y % 2 ^ k * 2 ^ k) (y / 2 ^ k % 2 ^ k) hi lo
+    ∙ ap₂ (λ (p q : ℕ). bitOr (a * 2 ^ k) (bitAnd p e) * 2 ^ (k + k) + q) (shift-swap k y)
+    (or-shifted (y % 2 ^ k) k (y / 2 ^ k % 2 ^ k) (mod-lt (y / 2 ^ k) (pow-pos k)))
+    ∙ ap (λ (p : ℕ). p * 2 ^ (k + k) + (y % 2 ^ k * 2 ^ k + y / 2 ^ k % 2 ^ k)) (swap-is k m (y / 2 ^ (k + k)))
+
+-- What the code computes at a step, with the mask as it stands there.
+abbrev pub step : (mask k y : ℕ) → ℕ
+step mask k y = bitOr ((bitAnd y mask * 2 ^ k) % 2 ^ 64) (bitAnd (y / 2 ^ k) mask)
+
+pub step-is : (mask k m y : ℕ) → mask ≡ evens k m → mask * 2 ^ k < 2 ^ 64 → step mask k y ≡ swaps k m y
+step-is mask k m y e h =
+    ap (λ (p : ℕ). bitOr p (bitAnd (y / 2 ^ k) mask)) (mod-eq-of-lt (lt-of-le-of-lt (mul-le-mul-right (2 ^ k) (and-le-r y mask)) h))
+    ∙ ap (λ (n : ℕ). bitOr (bitAnd y n * 2 ^ k) (bitAnd (y / 2 ^ k) n)) e ∙ swap-is k m y
+
+-- ---- fields of d digits, each turned round
+
+twice : ℕ → ℕ
+twice zero = zero
+twice (suc m) = suc (suc (twice m))
+
+flips : ℕ → ℕ → ℕ → ℕ
+flips d zero x = zero
+flips d (suc m) x = flips d m (x / 2 ^ (d + d)) * 2 ^ (d + d) + turned same d x
+
+dbl : (d : ℕ) → 4 ^ d ≡ 2 ^ (d + d)
+dbl d = four d ∙ ap (λ (n : ℕ). 2 ^ n) (omega arith)
+
+rev-below : (d x : ℕ) → turned same d x < 2 ^ (d + d)
+rev-below d x = subst (λ (n : ℕ). turned same d x < n) (dbl d) (turned-lt same same-lt d x)
+
+-- Fields of one digit are what they are.
+flips-one : (m x : ℕ) → flips 1 m x ≡ x % 2 ^ (m + m)
+unfolding flips turned
+flips-one zero x = sym (mod-one x)
+flips-one (suc m) x =
+    let e : suc m + suc m ≡ (m + m) + 2 = omega arith in
+    ap (λ (p : ℕ). p * 2 ^ 2 + (x % 4 * 1 + 0)) (flips-one m (x / 2 ^ 2))
+    ∙ omega (arith, mod-pow-add x (m + m) 2, ap (λ (n : ℕ). x % 2 ^ n) e)
+
+swaps-flips : (d m x : ℕ) → swaps (d + d) m (flips d (twice m) x) ≡ flips (d + d) m x
+unfolding swaps flips twice
+swaps-flips d zero x = refl
+swaps-flips d (suc m) x =
+    let k : ℕ = d + d in
+    let a : ℕ = flips d (twice m) (x / 2 ^ k / 2 ^ k) in
+    let o₁ : ℕ = turned same d (x / 2 ^ k) in
+    let o₀ : ℕ = turned same d x in
+    let l₁ : o₁ < 2 ^ k = rev-below d (x / 2 ^ k) in
+    let l₀ : o₀ < 2 ^ k = rev-below d x in
+    let y : ℕ = (a * 2 ^ k + o₁) * 2 ^ k + o₀ in
+    let hi : y / 2 ^ (k + k) ≡ a =
+    sym (shr-shr y k k) ∙ ap (λ (n : ℕ). n / 2 ^ k) (digits-div (a * 2 ^ k + o₁) l₀) ∙ digits-div a l₁ in
+    let mid : y / 2 ^ k % 2 ^ k ≡ o₁ = ap (λ (n : ℕ). n % 2 ^ k) (digits-div (a * 2 ^ k + o₁) l₀) ∙ digits-mod a l₁ in
+    let low : y % 2 ^ k ≡ o₀ = digits-mod (a * 2 ^ k + o₁) l₀ in
+    (λ i. swaps k m (hi i) * 2 ^ (k + k) + (low i * 2 ^ k + mid i))
+    ∙ ap (λ (n : ℕ). n * 2 ^ (k + k) + (o₀ * 2 ^ k + o₁))
+    (swaps-flips d m (x / 2 ^ k / 2 ^ k) ∙ ap (λ (n : ℕ). flips k m n) (shr-shr x k k))
+    ∙ ap (λ (n : ℕ). flips k m (x / 2 ^ (k + k)) * 2 ^ (k + k) + n)
+    (sym (turned-cat same d d x ∙ ap₂ (λ (p q : ℕ). o₀ * p + turned same d (x / q)) (dbl d) (dbl d)))
+
+-- Five steps turn a word round.
+pub flipped : (x : ℕ) → x < 2 ^ 64 → swaps 32 1 (swaps 16 2 (swaps 8 4 (swaps 4 8 (swaps 2 16 x)))) ≡ turned same 32 x
+unfolding twice flips
+flipped x h =
+    let s₁ : swaps 2 16 x ≡ flips 2 16 x = ap (swaps 2 16) (sym (flips-one 32 x ∙ mod-eq-of-lt h)) ∙ swaps-flips 1 16 x in
+    let s₂ : swaps 4 8 (swaps 2 16 x) ≡ flips 4 8 x = ap (swaps 4 8) s₁ ∙ swaps-flips 2 8 x in
+    let s₃ : swaps 8 4 (swaps 4 8 (swaps 2 16 x)) ≡ flips 8 4 x = ap (swaps 8 4) s₂ ∙ swaps-flips 4 4 x in
+    let s₄ : swaps 16 2 (swaps 8 4 (swaps 4 8 (swaps 2 16 x))) ≡ flips 16 2 x = ap (swaps 16 2) s₃ ∙ swaps-flips 8 2 x in
+    ap (swaps 32 1) s₄ ∙ swaps-flips 16 1 x ∙ omega arith
