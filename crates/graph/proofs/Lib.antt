@@ -1,0 +1,4 @@
+pub mod Rank
+pub mod Fit
+pub mod Insert
+pub mod Store

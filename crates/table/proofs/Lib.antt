@@ -1,0 +1,10 @@
+pub mod Halving
+pub mod Keys
+pub mod Searching
+pub mod Shifting
+pub mod Inserting
+pub mod Outcomes
+pub mod Ranked
+pub mod Ascending
+pub mod Verdict
+pub mod Says

@@ -1,0 +1,31 @@
+-- How the test of a table ends: K is refused, there is no room for so many keys, or the keys decide. Assumes nothing.
+use mathlib.Core.Path.{_≡_, refl, sym}
+use mathlib.Core.Bool.{Bool, true, false, cond}
+use mathlib.Core.List.{List}
+use Prim.Native.Nat.{ℕ, _≤_, _<_}
+use borrow.Author.Tests.{leb-true, le-leb, lt-leb}
+use lib.Dec.{leb}
+use Rattle.kmer.specs.Kmer.{okK}
+use Rattle.graph.specs.Table.{keysOf, capacity, fitFrom}
+use Rattle.table.specs.Calls.{fitCall, fitAnswer}
+use Rattle.table.specs.declared.FitAnswer.the-variants.{Fit, Unfit, UnsupportedK}
+
+pub ok : (k : ℕ) → 1 ≤ k → k ≤ 63 → okK k ≡ true
+ok k l m = rw (le-leb 1 k l, le-leb k 63 m)
+
+module _ (k n : ℕ) (keys counts : List ℕ) where
+  pub fit-refused : (1 ≤ k → k ≤ 63 → ⊥) → fitAnswer (UnsupportedK k) ≡ fitCall k n keys counts
+  fit-refused h = go (leb 1 k) refl (leb k 63) refl
+    where
+      go : (a : Bool) → leb 1 k ≡ a → (b : Bool) → leb k 63 ≡ b → fitAnswer (UnsupportedK k) ≡ fitCall k n keys counts
+      go false p b q = rw p
+      go true p false q = rw (p, q)
+      go true p true q = absurd (h (leb-true 1 k p) (leb-true k 63 q))
+
+  module _ (l : 1 ≤ k) (m : k ≤ 63) where
+    pub fit-over : capacity keys counts < n → fitAnswer Unfit ≡ fitCall k n keys counts
+    fit-over h = rw (ok k l m, lt-leb n (capacity keys counts) h)
+
+    pub fit-keys : n ≤ capacity keys counts → (t : Bool) → t ≡ fitFrom k 0 (keysOf n keys) → fitAnswer (cond t Fit Unfit) ≡ fitCall k n keys counts
+    fit-keys h true e = rw (ok k l m, le-leb n (capacity keys counts) h, sym e)
+    fit-keys h false e = rw (ok k l m, le-leb n (capacity keys counts) h, sym e)
