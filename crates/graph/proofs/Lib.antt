@@ -2,3 +2,8 @@ pub mod Rank
 pub mod Fit
 pub mod Insert
 pub mod Store
+pub mod Lookup
+pub mod Sight
+pub mod Keys
+pub mod Adding
+pub mod Accepted

@@ -10,7 +10,7 @@ use Rattle.kmer.specs.Kmer.{low, high, joined}
 use Rattle.graph.specs.Table.{keysOf, wordsOf, insertAt}
 use Rattle.graph.proofs.Insert.{insert-length}
 use Rattle.table.specs.Insert.{insertedIn}
-use Rattle.table.proofs.Keys.{keys-length, words-length, words-append, words-take, words-drop, words-keys}
+use Rattle.graph.proofs.Keys.{keys-length, words-length, words-append, words-take, words-drop, words-keys}
 use Rattle.table.proofs.Shifting.{inserted-front}
 
 module _ (n at : ℕ) (h : at ≤ n) where

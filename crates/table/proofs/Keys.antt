@@ -1,31 +1,12 @@
--- The keys of a slice of words, one by one. Assumes nothing.
-use mathlib.Core.Path.{_≡_, refl, ap, _∙_}
-use mathlib.Core.List.{List, [], _∷_, _++_}
-use Prim.Native.Nat.{ℕ, zero, suc, _+_, _*_, _/_, _^_, _≤_, _<_, min}
+-- A key of a slice of words, by its place. Assumes nothing.
+use mathlib.Core.Path.{_≡_, refl, _∙_}
+use mathlib.Core.List.{List, [], _∷_}
+use Prim.Native.Nat.{ℕ, zero, suc, _+_, _*_, _/_, _<_}
 use native.Mathlib.Nat.{not-suc-le-zero}
 use native.Mathlib.Omega.{arith}
-use lib.ListN.{length, getD, take, drop}
-use lib.Seq.{take-nil, drop-nil}
-use Rattle.kmer.specs.Kmer.{low, high, joined}
-use Rattle.graph.specs.Table.{keysOf, wordsOf}
+use lib.ListN.{length, getD}
+use Rattle.graph.specs.Table.{keysOf}
 use Rattle.table.specs.Search.{key}
-
-pub keys-length : (n : ℕ) (words : List ℕ) → length (keysOf n words) ≡ min n (length words / 2)
-unfolding keysOf
-keys-length zero words = omega arith
-keys-length (suc n) [] = omega arith
-keys-length (suc n) (l ∷ []) = omega arith
-keys-length (suc n) (l ∷ h ∷ words) = omega (arith, keys-length n words)
-
--- More keys than there are, are those that there are.
-pub keys-most : (n : ℕ) (words : List ℕ) → keysOf (min n (length words / 2)) words ≡ keysOf n words
-unfolding keysOf
-keys-most zero words = let e : min 0 (length words / 2) ≡ 0 = omega arith in rw e
-keys-most (suc n) [] = let e : min (suc n) (0 / 2) ≡ 0 = omega arith in rw e
-keys-most (suc n) (l ∷ []) = let e : min (suc n) (1 / 2) ≡ 0 = omega arith in rw e
-keys-most (suc n) (l ∷ h ∷ words) =
-    let e : min (suc n) (suc (suc (length words)) / 2) ≡ suc (min n (length words / 2)) = omega arith in
-    ap (λ (m : ℕ). keysOf m (l ∷ h ∷ words)) e ∙ ap (λ (ks : List ℕ). joined l h ∷ ks) (keys-most n words)
 
 pub key-is : (n : ℕ) (words : List ℕ) (i : ℕ) → i < n → i < length words / 2 → getD (keysOf n words) i 0 ≡ key words i
 unfolding keysOf
@@ -37,49 +18,3 @@ key-is (suc n) (x ∷ y ∷ words) (suc i) h l =
     let a : 2 * suc i ≡ suc (suc (2 * i)) = omega arith in
     let b : 2 * suc i + 1 ≡ suc (suc (2 * i + 1)) = omega arith in
     key-is n words i (omega arith) (omega arith) ∙ rw (b, a)
-
-pub words-length : (ks : List ℕ) → length (wordsOf ks) ≡ 2 * length ks
-unfolding wordsOf
-words-length [] = refl
-words-length (x ∷ ks) = omega (arith, words-length ks)
-
-pub words-append : (a b : List ℕ) → wordsOf (a ++ b) ≡ wordsOf a ++ wordsOf b
-unfolding wordsOf
-words-append [] b = refl
-words-append (x ∷ a) b = ap (λ (ws : List ℕ). low x ∷ high x ∷ ws) (words-append a b)
-
-pub words-take : (i : ℕ) (ks : List ℕ) → take (2 * i) (wordsOf ks) ≡ wordsOf (take i ks)
-unfolding wordsOf
-words-take zero ks = refl
-words-take (suc i) [] = take-nil (2 * suc i)
-words-take (suc i) (x ∷ ks) =
-    let e : 2 * suc i ≡ suc (suc (2 * i)) = omega arith in
-    ap (λ (m : ℕ). take m (low x ∷ high x ∷ wordsOf ks)) e ∙ ap (λ (ws : List ℕ). low x ∷ high x ∷ ws) (words-take i ks)
-
-pub words-drop : (i : ℕ) (ks : List ℕ) → drop (2 * i) (wordsOf ks) ≡ wordsOf (drop i ks)
-unfolding wordsOf
-words-drop zero ks = refl
-words-drop (suc i) [] = drop-nil (2 * suc i)
-words-drop (suc i) (x ∷ ks) =
-    let e : 2 * suc i ≡ suc (suc (2 * i)) = omega arith in
-    ap (λ (m : ℕ). drop m (low x ∷ high x ∷ wordsOf ks)) e ∙ words-drop i ks
-
--- The first words are those of the first keys, where each fits its 64 bits.
-pub words-keys : (n : ℕ) (words : List ℕ) → n ≤ length words / 2 → ((i : ℕ) → getD words i 0 < 2 ^ 64) → wordsOf (keysOf n words) ++ drop (2 * n) words ≡ words
-unfolding wordsOf keysOf
-words-keys zero words l fits = refl
-words-keys (suc n) [] l fits = absurd (omega arith)
-words-keys (suc n) (x ∷ []) l fits = absurd (omega arith)
-words-keys (suc n) (x ∷ y ∷ words) l fits =
-    let e : 2 * suc n ≡ suc (suc (2 * n)) = omega arith in
-    let lo : low (joined x y) ≡ x = omega (arith, fits 0) in
-    let hi : high (joined x y) ≡ y = omega (arith, fits 0) in
-    rw (e, lo, hi) (ap (λ (ws : List ℕ). x ∷ y ∷ ws) (words-keys n words (omega arith) (λ i. fits (suc (suc i)))))
-
--- The keys of some keys' words are those keys.
-pub keys-words : (ks rest : List ℕ) → keysOf (length ks) (wordsOf ks ++ rest) ≡ ks
-unfolding wordsOf keysOf
-keys-words [] rest = refl
-keys-words (x ∷ ks) rest =
-    let e : joined (low x) (high x) ≡ x = omega arith in
-    rw e (ap (λ (zs : List ℕ). x ∷ zs) (keys-words ks rest))

@@ -14,7 +14,7 @@ use Rattle.table.specs.Insert.{insertedIn}
 use Rattle.table.specs.Calls.{storeAt, storeCall, Stores}
 use Rattle.table.specs.declared.Found.the-variants.{At, Gap}
 use Rattle.table.specs.declared.StoreAnswer.the-variants.{Stored, Full}
-use Rattle.table.proofs.Keys.{keys-length}
+use Rattle.graph.proofs.Keys.{keys-length}
 use Rattle.table.proofs.Searching.{gap-within}
 use Rattle.table.proofs.Inserting.{keys-inserted, counts-inserted}
 

@@ -18,7 +18,7 @@ use Rattle.table.specs.Search.{placeOf, findIn}
 use Rattle.table.specs.Calls.{Storing, storeAt, storeCall}
 use Rattle.table.specs.declared.Found.the-variants.{At, Gap}
 use Rattle.table.proofs.Halving.{halving-ends}
-use Rattle.table.proofs.Keys.{keys-length, words-length, words-keys, keys-words}
+use Rattle.graph.proofs.Keys.{keys-length, words-length, words-keys, keys-words}
 use Rattle.table.proofs.Searching.{smaller}
 
 module _ (K : ℕ) (ks : List ℕ) (x : ℕ) (fits : fitFrom K 0 ks ≡ true) where

@@ -12,7 +12,8 @@ use Rattle.graph.specs.Table.{keysOf}
 use Rattle.table.specs.Search.{key, placeOf, findIn}
 use Rattle.table.specs.declared.Found.{Found}
 use Rattle.table.specs.declared.Found.the-variants.{At, Gap}
-use Rattle.table.proofs.Keys.{keys-length, keys-most, key-is}
+use Rattle.graph.proofs.Keys.{keys-length, keys-most}
+use Rattle.table.proofs.Keys.{key-is}
 use Rattle.table.proofs.Halving.{Left, left-none, halving-within}
 
 -- The key at a place is smaller than x.

@@ -1,0 +1,82 @@
+-- Adding keeps a table fit, and the keys of a grown table are the canonical k-mers of its labels' windows. Assumes nothing.
+use mathlib.Core.Path.{_≡_, refl, sym, ap, _∙_, subst}
+use mathlib.Core.Bool.{Bool, true, _||_, or-false, or-assoc}
+use mathlib.Core.List.{List}
+use Prim.Native.Nat.{ℕ, zero, suc, _≤_}
+use native.Mathlib.Omega.{arith}
+use lib.Dec.{eqb}
+use borrow.Author.Tests.{le-leb}
+use Rattle.dna.specs.Answer.{Answer, gives, refuses}
+use Rattle.kmer.specs.Kmer.{canon}
+use Rattle.state.specs.Counted.{Kind}
+use Rattle.graph.specs.Table.{Table, tableOf, keysOf, capacity, fit, fitFrom, stored}
+use Rattle.graph.specs.Sightings.{Rule, window, windows}
+use Rattle.graph.specs.Adding.{Edges, Added, storeWindows, added, addLabel}
+use Rattle.graph.proofs.Rank.{stored-nil}
+use Rattle.graph.proofs.Store.{Sound}
+use Rattle.graph.proofs.Adding.{store-or, added-keys, added-sound}
+use Rattle.graph.proofs.Accepted.{fit-sound, Accepted, accepted, refused-same}
+use Rattle.laws.specs.Grown.{Grown, fresh, accepts, storedAfter, shows, seenIn}
+
+-- ---- fit
+
+module _ (κ : Kind) (rule : Rule) (K n : ℕ) (keys counts label : List ℕ) where
+  abbrev done : Added
+  done = addLabel κ rule K n keys counts label
+
+  -- The table that an accepted label leaves.
+  accepted-sound : (e : Edges) → Accepted κ rule K n keys counts label done e → Sound K (tableOf (e .stored) (done .keys) (done .counts))
+  accepted-sound e a =
+      subst (Sound K) (sym (a .table))
+      (added-sound κ rule K label (tableOf n keys counts) (a .reads) (fit-sound K n keys counts (a .fits)))
+
+  pub accepted-fit : (e : Edges) → done .answer ≡ gives e → fit K (e .stored) (done .keys) (done .counts) ≡ true
+  accepted-fit e h =
+      let a = accepted κ rule K n keys counts label e h in
+      let c : e .stored ≤ capacity (done .keys) (done .counts) = rw (a .keys-length, a .counts-length) (a .room) in
+      rw (le-leb (e .stored) (capacity (done .keys) (done .counts)) c) (accepted-sound e a .fits)
+
+  -- Adding keeps a table fit, whatever it answers.
+  pub add-fit : fit K n keys counts ≡ true → fit K (storedAfter n (done .answer)) (done .keys) (done .counts) ≡ true
+  add-fit f = go (done .answer) refl
+    where
+      go : (a : Answer Edges) → done .answer ≡ a → fit K (storedAfter n a) (done .keys) (done .counts) ≡ true
+      go (gives e) h = accepted-fit e h
+      go (refuses x vs) h =
+          let s = refused-same κ rule K n keys counts label x vs h in
+          rw (s .keys-same, s .counts-same) f
+
+module _ {κ : Kind} {rule : Rule} {K : ℕ} where
+  -- A grown table is fit.
+  pub grown-fit : {ls : List (List ℕ)} {n : ℕ} {keys counts : List ℕ} → Grown κ rule K ls n keys counts → fit K n keys counts ≡ true
+  unfolding keysOf fitFrom
+  grown-fit (fresh keys counts) = rw (le-leb 0 (capacity keys counts) (omega arith))
+  grown-fit (accepts {n = n} {keys = keys} {counts = counts} g l e h) = accepted-fit κ rule K n keys counts l e h
+
+-- ---- keys
+
+-- Storing a label's windows stores their canonical k-mers and no others.
+pub windows-stored : (K : ℕ) (label : List ℕ) (t : Table) (m x : ℕ) → stored (storeWindows K label t m .keys) x ≡ stored (t .keys) x || shows K label m x
+unfolding storeWindows shows
+windows-stored K label t zero x = sym (or-false (stored (t .keys) x))
+windows-stored K label t (suc m) x =
+    let y = canon K (window K label m) in
+    store-or (storeWindows K label t m) y x
+    ∙ ap (λ (b : Bool). b || eqb y x) (windows-stored K label t m x)
+    ∙ or-assoc (stored (t .keys) x) (shows K label m x) (eqb y x)
+
+pub added-stored : (κ : Kind) (rule : Rule) (K : ℕ) (label : List ℕ) (t : Table) (x : ℕ)
+    → stored (added κ rule K label t .keys) x ≡ stored (t .keys) x || shows K label (windows K label) x
+added-stored κ rule K label t x =
+    ap (λ (ks : List ℕ). stored ks x) (added-keys κ rule K label t) ∙ windows-stored K label t (windows K label) x
+
+module _ {κ : Kind} {rule : Rule} {K : ℕ} where
+  -- The keys of a grown table are the canonical k-mers of its labels' windows.
+  pub grown-keys : {ls : List (List ℕ)} {n : ℕ} {keys counts : List ℕ} → Grown κ rule K ls n keys counts
+      → (x : ℕ) → stored (keysOf n keys) x ≡ seenIn K ls x
+  unfolding keysOf seenIn
+  grown-keys (fresh keys counts) x = stored-nil x
+  grown-keys (accepts {ls = ls} {n = n} {keys = keys} {counts = counts} g l e h) x =
+      let a = accepted κ rule K n keys counts l e h in
+      ap (λ (t : Table). stored (t .keys) x) (a .table) ∙ added-stored κ rule K l (tableOf n keys counts) x
+      ∙ ap (λ (b : Bool). b || shows K l (windows K l) x) (grown-keys g x)

@@ -1,0 +1,12 @@
+pub mod Keys
+pub mod Sides
+pub mod Sighted
+pub mod Counts
+pub mod Links
+pub mod Closed
+pub mod Odd
+pub mod Parts
+pub mod Symmetry
+pub mod Edges
+pub mod Found
+pub mod Example

@@ -1,0 +1,1 @@
+// Theorems about the definitions of the crates below; no code stands here.
