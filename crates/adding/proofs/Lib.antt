@@ -1,0 +1,13 @@
+pub mod Seeing
+pub mod Neighbours
+pub mod Testing
+pub mod Grown
+pub mod Slices
+pub mod Growing
+pub mod Newcomers
+pub mod Sighting
+pub mod Tallying
+pub mod Noting
+pub mod Outcomes
+pub mod Whole
+pub mod Says

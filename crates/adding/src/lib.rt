@@ -1,0 +1,29 @@
+// Adding labels to the lent table.
+mod counting;
+mod label;
+mod storing;
+mod windows;
+
+pub use label::add_label;
+
+// The edges of an added label and the number of vertices stored afterwards, or why it was refused.
+pub enum AddAnswer {
+    Added { edges: usize, stored: usize },
+    UnsupportedK(usize),
+    InvalidBase { place: usize, byte: u8 },
+    TooLong(usize),
+    Unfit,
+    Full,
+}
+
+// A window of a label: its canonical k-mer, and whether it is seen so.
+struct Seen {
+    kmer: kmer::Kmer,
+    straight: bool,
+}
+
+// A label's first byte that is no base.
+enum Bad {
+    Nowhere,
+    At { place: usize, byte: u8 },
+}
