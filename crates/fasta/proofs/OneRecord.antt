@@ -1,39 +1,30 @@
--- One record written: its beginning, the label behind it, the last newline. Assumes nothing.
-use mathlib.Core.Path.{_≡_, refl, ap, _∙_}
+-- A record is three cells, a text behind them and one cell more. Assumes nothing.
+use mathlib.Core.Path.{_≡_, refl}
 use mathlib.Core.List.{List, [], _∷_, _++_}
 use Prim.Native.Nat.{ℕ, _+_, _-_, _≤_}
 use native.Mathlib.Nat.{not-suc-le-zero, le-of-suc-le-suc}
 use native.Mathlib.Omega.{arith}
 use borrow.Rule.Slice.PartMut.{midOf, putMid}
-use lib.ListN.{length, set, length-set}
-use Rattle.dna.specs.Text.{bytes, over}
-use Rattle.graph.specs.Fasta.{recordOf}
-use Rattle.fasta.proofs.Over.{length-over, over-one, over-rest}
+use lib.ListN.{length, set}
+use Rattle.dna.specs.Text.{over}
+use Rattle.fasta.proofs.Over.{over-one, over-rest}
 
--- A slice whose first three cells have a record's beginning.
-abbrev pub headed : List ℕ → List ℕ
-headed slice = set (set (set slice 0 62) 1 48) 2 10
+-- The first three cells stored.
+abbrev pub headed : ℕ → ℕ → ℕ → List ℕ → List ℕ
+headed x y z slice = set (set (set slice 0 x) 1 y) 2 z
 
-headed-over : (slice : List ℕ) → 3 ≤ length slice → headed slice ≡ over (bytes ">0\n") slice
-headed-over [] h = absurd (not-suc-le-zero h)
-headed-over (a ∷ []) h = absurd (not-suc-le-zero (le-of-suc-le-suc h))
-headed-over (a ∷ b ∷ []) h = absurd (not-suc-le-zero (le-of-suc-le-suc (le-of-suc-le-suc h)))
-headed-over (a ∷ b ∷ d ∷ slice) h = refl
+headed-over : (x y z : ℕ) (slice : List ℕ) → 3 ≤ length slice → headed x y z slice ≡ over (x ∷ y ∷ z ∷ []) slice
+headed-over x y z [] h = absurd (not-suc-le-zero h)
+headed-over x y z (a ∷ []) h = absurd (not-suc-le-zero (le-of-suc-le-suc h))
+headed-over x y z (a ∷ b ∷ []) h = absurd (not-suc-le-zero (le-of-suc-le-suc (le-of-suc-le-suc h)))
+headed-over x y z (a ∷ b ∷ d ∷ slice) h = refl
 
-module _ (label slice part : List ℕ) (room : length label + 4 ≤ length slice)
-    (p : part ≡ over label (midOf 3 (length (headed slice) - 3) (headed slice))) where
-  -- The beginning and the label behind it.
-  labelled : putMid 3 (length (headed slice) - 3) (headed slice) part ≡ over (bytes ">0\n" ++ label) slice
-  labelled = over-rest (bytes ">0\n") label slice (headed slice) part 3 refl (omega arith) (headed-over slice (omega arith)) p
-
-  pub labelled-long : length (putMid 3 (length (headed slice) - 3) (headed slice) part) ≡ length slice
-  labelled-long = ap length labelled ∙ length-over (bytes ">0\n" ++ label) slice (omega arith)
-
-  -- The whole record.
-  pub record-over : set (putMid 3 (length (headed slice) - 3) (headed slice) part) (3 + length label) 10 ≡ over (recordOf label) slice
-  record-over =
-      let e : 3 + length label ≡ length (bytes ">0\n" ++ label) = omega arith in
-      rw (labelled, e) (over-one (bytes ">0\n" ++ label) slice 10 (omega arith))
-
-  pub record-long : length (set (putMid 3 (length (headed slice) - 3) (headed slice) part) (3 + length label) 10) ≡ length slice
-  record-long = length-set (putMid 3 (length (headed slice) - 3) (headed slice) part) (3 + length label) 10 ∙ labelled-long
+-- `part` is what the rest of the slice came back as, with the label; the last cell is behind it.
+pub framed : (x y z : ℕ) (label slice part : List ℕ) → length label + 4 ≤ length slice
+    → part ≡ over label (midOf 3 (length (headed x y z slice) - 3) (headed x y z slice)) → (last at : ℕ) → at ≡ 3 + length label
+    → set (putMid 3 (length (headed x y z slice) - 3) (headed x y z slice) part) at last ≡ over (x ∷ y ∷ z ∷ (label ++ (last ∷ []))) slice
+framed x y z label slice part room p last at e =
+    let labelled : putMid 3 (length (headed x y z slice) - 3) (headed x y z slice) part ≡ over (x ∷ y ∷ z ∷ label) slice =
+    over-rest (x ∷ y ∷ z ∷ []) label slice (headed x y z slice) part 3 refl (omega arith) (headed-over x y z slice (omega arith)) p in
+    let n : at ≡ length (x ∷ y ∷ z ∷ label) = omega arith in
+    rw (labelled, n) (over-one (x ∷ y ∷ z ∷ label) slice last (omega arith))

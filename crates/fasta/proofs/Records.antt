@@ -12,7 +12,6 @@ use lib.ListN.{length, getD, take, drop, length-append, length-take, length-drop
 use Rattle.lemmas.proofs.Tests.{both}
 use Rattle.graph.specs.Fasta.{recordOf, records, within}
 use Rattle.fasta.specs.Sizes.{sizeOf}
-use Rattle.fasta.proofs.Entries.{within-long, within-at, within-all}
 
 -- The record of one label.
 pub length-record : (label : List ℕ) → length (recordOf label) ≡ length label + 4

@@ -23,8 +23,8 @@ pub record Listed (labels starts lengths : List ℕ) (count : ℕ) (slice₀ sli
   pub cells : slice ≡ over (records labels i starts lengths) slice₀
   pub long : length slice ≡ length slice₀
 
-pub listed-none : (labels starts lengths : List ℕ) (count : ℕ) (slice₀ : List ℕ) → within labels count starts lengths ≡ true → sizeOf count lengths ≤ length slice₀
-    → Listed labels starts lengths count slice₀ slice₀ 0 0
+pub listed-none : (labels starts lengths : List ℕ) (count : ℕ) (slice₀ : List ℕ) → within labels count starts lengths ≡ true
+    → sizeOf count lengths ≤ length slice₀ → Listed labels starts lengths count slice₀ slice₀ 0 0
 unfolding sizeOf records
 listed-none labels starts lengths count slice₀ w r =
     record {

@@ -18,12 +18,10 @@ abbrev μ-loop : tie.MeasureT-loop
 μ-loop labels starts lengths count i₀ i = count - i
 
 returns : tie.Need-returns Inv-loop μ-loop
-returns c =
-    refuted _ (λ t. omega (arith, within-long _ _ _ _ t .0))
+returns c = refuted _ (λ t. omega (arith, within-long _ _ _ _ t .0))
 
 returns-2 : tie.Need-returns-2 Inv-loop μ-loop
-returns-2 c =
-    refuted _ (λ t. omega (arith, within-long _ _ _ _ t .1))
+returns-2 c = refuted _ (λ t. omega (arith, within-long _ _ _ _ t .1))
 
 returns-3 : tie.Need-returns-3 Inv-loop μ-loop
 returns-3 c =

@@ -8,8 +8,7 @@ use Rattle.fasta.proofs.write_fasta.Statement.{statement}
 use Rattle.fasta.proofs.write_fasta.Tie as tie
 
 returns : tie.Need-returns
-returns c =
-    lists-outside _ _ _ _ _ (sym (c .before .lie-within .ensures) ∙ not-true _ (c .if1 .taken))
+returns c = lists-outside _ _ _ _ _ (sym (c .before .lie-within .ensures) ∙ not-true _ (c .if1 .taken))
 
 has-room-requires : tie.Need-has-room-requires
 has-room-requires c κs =
@@ -28,8 +27,9 @@ write-records-requires c κs =
 
 returns-3 : tie.Need-returns-3
 returns-3 c =
-    let w = sym (c .before .before .before .before .before .before .before .lie-within .ensures) ∙ not-false _ (c .before .before .before .before .before .before .if1 .left) in
-    let h = leb-true _ _ (sym (c .before .before .before .before .before .has-room .ensures) ∙ not-false _ (c .before .before .before .before .if2 .left)) in
+    let t = c .before .before .before .before in
+    let w = sym (t .before .before .before .lie-within .ensures) ∙ not-false _ (t .before .before .if1 .left) in
+    let h = leb-true _ _ (sym (t .before .has-room .ensures) ∙ not-false _ (t .if2 .left)) in
     let e = c .before .before .write-records .ensures in
     lists-all _ _ _ _ _ w _ _ h (e .0) (e .1)
 

@@ -1,27 +1,27 @@
 -- The beginning, the label behind it and the last newline are one text. Assumes nothing.
-use mathlib.Core.Path.{refl}
+use mathlib.Core.Path.{refl, ap, _∙_}
 use native.Mathlib.Omega.{arith}
-use lib.ListN.{length-set, length-take, length-drop}
-use Rattle.fasta.proofs.OneRecord.{labelled-long, record-long, record-over}
+use lib.ListN.{length, length-set, length-take, length-drop}
+use Rattle.graph.specs.Fasta.{recordOf}
+use Rattle.fasta.proofs.Over.{length-over}
+use Rattle.fasta.proofs.Records.{length-record}
+use Rattle.fasta.proofs.OneRecord.{framed}
 use borrow.Author.Needs.{needs}
 use Rattle.fasta.proofs.write_record.Statement.{statement}
 use Rattle.fasta.proofs.write_record.Tie as tie
 
 slice-write-out-4 : tie.Need-slice-write-out-4
-slice-write-out-4 c =
-    let a = c .before .before .before .before .before .before .args in
-    let w = labelled-long (a .label .now) (a .out .now) (c .before .before .copy .last .1 .0) (omega arith) (c .before .before .copy .ensures) in
-    omega arith
-
-same-length : tie.Need-same-length
-same-length c =
-    let a = c .before .before .before .before .before .before .args in
-    record-long (a .label .now) (a .out .now) (c .before .before .copy .last .1 .0) (omega arith) (c .before .before .copy .ensures)
+slice-write-out-4 c = simp length-set (omega (arith, simp length-set at (c .before .out .given .1)))
 
 returns : tie.Need-returns
 returns c =
     let a = c .before .before .before .before .before .before .args in
-    (refl, record-over (a .label .now) (a .out .now) (c .before .before .copy .last .1 .0) (omega arith) (c .before .before .copy .ensures))
+    (refl, framed _ _ _ (a .label .now) (a .out .now) _ (omega arith) (c .before .before .copy .ensures) _ _ (omega arith))
+
+same-length : tie.Need-same-length
+same-length c =
+    let a = c .before .before .before .before .before .before .args in
+    ap length (returns c .1) ∙ length-over (recordOf (a .label .now)) (a .out .now) (omega (arith, length-record (a .label .now)))
 
 pub write-record-spec : {M : Type 1} → statement M
 write-record-spec =

@@ -42,8 +42,7 @@ loop-again c =
     listed-more (l .inv) (omega arith) (start .result) (start .result + more .result) _ _ (start .ensures .0) (omega arith) (w .ensures .0) (w .ensures .1)
 
 returns : tie.Need-returns Inv-loop μ-loop
-returns c =
-    listed-all (c .before .loop .inv) (omega arith)
+returns c = listed-all (c .before .loop .inv) (omega arith)
 
 pub write-records-spec : {M : Type 1} → statement M
 write-records-spec =
