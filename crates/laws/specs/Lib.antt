@@ -1,1 +1,6 @@
 pub mod Grown
+pub mod Trails
+pub mod Tours
+pub mod Windows
+pub mod Demand
+pub mod Neighbours
