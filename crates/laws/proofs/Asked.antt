@@ -21,6 +21,7 @@ use Rattle.graph.specs.Contraction.{Contracted, endsIn, contract, openContracti
 use Rattle.laws.specs.Grown.{Grown, fresh, accepts}
 use Rattle.laws.specs.Demand.{listed, Sole, Demand3, openDemand}
 use Rattle.laws.proofs.Demand.{demand3}
+use Rattle.laws.proofs.Example.{p1-grown}
 
 abbrev keys : List ℕ
 keys = 6 ∷ 0 ∷ 22 ∷ 0 ∷ []
@@ -50,3 +51,17 @@ met-label = refl
 pub met-sole : Sole 3 (keysOf 2 keys) (endsIn fourBits 1 (tableOf 2 keys counts)) 0 Back 1 Back
 unfolding openLetters openKmer openCounted openTable openWalks openContraction
 met-sole = record { at-u = omega arith; at-v = omega arith; joins = record { there = refl; back = refl } }
+
+-- P1's table meets it too.
+abbrev p1-called : Contracted
+p1-called =
+    contract fourBits 3 1 2 (5 ∷ 0 ∷ 21 ∷ 0 ∷ []) (0x00100000 ∷ 0x00100001 ∷ []) (replicate 8 0) (replicate 2 0) (replicate 2 0) (replicate 2 0)
+
+p1-accepted : p1-called .answer ≡ gives (record { labels = 1; bases = 4 })
+unfolding openText openLetters openOrder openKmer openCounted openTable openWalks openLabels openContraction
+p1-accepted = refl
+
+pub p1-met :
+    Demand3 3 (keysOf 2 (5 ∷ 0 ∷ 21 ∷ 0 ∷ [])) (endsIn fourBits 1 (tableOf 2 (5 ∷ 0 ∷ 21 ∷ 0 ∷ []) (0x00100000 ∷ 0x00100001 ∷ [])))
+    (listed 1 (p1-called .labels) (p1-called .starts) (p1-called .lengths))
+p1-met = demand3 p1-grown 1 (replicate 8 0) (replicate 2 0) (replicate 2 0) (replicate 2 0) (record { labels = 1; bases = 4 }) p1-accepted

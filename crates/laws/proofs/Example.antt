@@ -1,17 +1,23 @@
 -- What the theorems ask is met by P1's label, and what they except is needed: in P1 the loop of CCC, in P4 an even K. Assumes
 -- nothing.
 use mathlib.Core.Path.{_≡_, refl}
+use mathlib.Core.Bool.{true}
 use mathlib.Core.List.{[], _∷_}
-use lib.ListN.{replicate}
+use lib.ListN.{getD, replicate}
 use Rattle.dna.specs.Text.{bytes, openText}
 use Rattle.dna.specs.Letters.{openLetters}
+use Rattle.dna.specs.Order.{openOrder}
 use Rattle.kmer.specs.Kmer.{openKmer}
 use Rattle.state.specs.declared.Side.the-variants.{Front, Back}
 use Rattle.state.specs.Counted.{slotOf, count, fourBits, openCounted}
-use Rattle.graph.specs.Table.{openTable}
+use Rattle.graph.specs.Table.{tableOf, keysOf, openTable}
 use Rattle.graph.specs.Sightings.{sameCanonical, openSightings}
 use Rattle.graph.specs.Adding.{openAdding}
+use Rattle.graph.specs.Walks.{isolated, openWalks}
+use Rattle.graph.specs.Labels.{run, openLabels}
+use Rattle.graph.specs.Contraction.{endsIn, openContraction}
 use Rattle.laws.specs.Grown.{Grown, fresh, accepts, Joins}
+use Rattle.laws.specs.Windows.{occurrences, openWindows}
 
 -- P1: the keys of ACC and CCC are 5 and 21.
 pub p1-grown : Grown fourBits sameCanonical 3 (bytes "ACCCC" ∷ []) 2 (5 ∷ 0 ∷ 21 ∷ 0 ∷ []) (0x00100000 ∷ 0x00100001 ∷ [])
@@ -39,3 +45,10 @@ p4-grown =
 pub p4-joins : Joins 2 (3 ∷ 4 ∷ []) 1 Back 3 0 Front 1 × (count fourBits 0x20000000 (slotOf Back 3) ≡ 2) × (count fourBits 0x01000010 (slotOf Front 1) ≡ 1)
 unfolding openLetters openKmer openCounted
 p4-joins = (record { there = refl; back = refl }, refl, refl)
+
+-- At cutoff 2 AT is isolated, and a walk from CA comes to it.
+pub p4-isolated : let ks = keysOf 2 (3 ∷ 0 ∷ 4 ∷ 0 ∷ []) in
+    let es = endsIn fourBits 2 (tableOf 2 (3 ∷ 0 ∷ 4 ∷ 0 ∷ []) (0x01000010 ∷ 0x20000000 ∷ [])) in
+    (isolated es 0 ≡ true) × (occurrences 2 (getD ks 0 0) (run 2 ks es 2 .labels) ≡ 1)
+unfolding openText openLetters openOrder openKmer openCounted openTable openWalks openLabels openContraction openWindows
+p4-isolated = (refl, refl)

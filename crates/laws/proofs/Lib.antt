@@ -31,5 +31,8 @@ pub mod Joining
 pub mod Pieces
 pub mod Neighbours
 pub mod Maximal
+pub mod Answered
+pub mod Entered
+pub mod Isolated
 pub mod Demand
 pub mod Asked

@@ -95,17 +95,25 @@ module _ (K : ℕ) (ks : List ℕ) (es : List Ends) where
   Maximal ls = (u v : ℕ) (s t : Side) → u < length ks → v < length ks → Sole u s v t → (u ≡ v → ⊥) → (OneBase u → ⊥) → (OneBase v → ⊥)
       → Some (λ l. Together (getD ks u 0) (getD ks v 0) (map (canon K) (windowsOf K l))) ls
 
-  -- All of demand 3 but its last sentence.
+  -- All of demand 3 but its last sentence, in the customer's words, of a list of labels.
   pub record Always (ls : List (List ℕ)) : Type 0 where
+    -- "On either strand, every stored k-mer with a retained edge occurs in the labels exactly once,
     pub exactly-once : (v : ℕ) → v < length ks → isolated es v ≡ false → occurrences K (getD ks v 0) ls ≡ 1
+    -- and no k-mer twice;
     pub never-twice : (x : ℕ) → occurrences K x ls ≤ 1
+    -- the labels strictly ascend,
     pub ascend : Ascending ls
+    -- none above its reverse complement.
     pub none-above : Each (λ l. before (reverseComplement l) l ≡ false) ls
+    -- Outward from a label's smallest non-isolated k-mer, each step leaves by the only edge retained on that side and enters by a
+    -- side with at most one."
     pub outward : Each FromSmallest ls
 
   -- Demand 3.
   pub record Demand3 (ls : List (List ℕ)) : Type 0 where
     pub every : Always ls
+    -- "If K is odd, two different stored k-mers, neither of one repeated base, whose edge is the only one retained on its side at
+    -- both ends, are neighbours in a label or the two ends of one."
     pub maximal : K % 2 ≡ 1 → Maximal ls
 
 -- Opens this file's definitions to a proof that computes.
