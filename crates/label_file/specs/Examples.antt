@@ -1,4 +1,4 @@
--- Document 01's sample of the program, and a file for each refusal that the form or the first labels can give, computed.
+-- Document 01's sample of the program, a file without labels, and some that are refused with 13, 1 and 3, computed.
 -- Assumes nothing.
 use Prim.Native.Nat.{ℕ}
 use Prim.Native.String.{String}

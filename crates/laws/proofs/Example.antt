@@ -16,8 +16,8 @@ use Rattle.graph.specs.Adding.{openAdding}
 use Rattle.graph.specs.Walks.{isolated, openWalks}
 use Rattle.graph.specs.Labels.{run, openLabels}
 use Rattle.graph.specs.Contraction.{endsIn, openContraction}
-use Rattle.laws.specs.Grown.{Grown, fresh, accepts, Joins}
-use Rattle.laws.specs.Windows.{occurrences, openWindows}
+use Rattle.laws.specs.Grown.{Grown, fresh, accepts, Joins, seenIn, sightedIn, openGrown}
+use Rattle.laws.specs.Windows.{occurs, occurrences, openWindows}
 
 -- P1: the keys of ACC and CCC are 5 and 21.
 pub p1-grown : Grown fourBits sameCanonical 3 (bytes "ACCCC" ∷ []) 2 (5 ∷ 0 ∷ 21 ∷ 0 ∷ []) (0x00100000 ∷ 0x00100001 ∷ [])
@@ -52,3 +52,14 @@ pub p4-isolated : let ks = keysOf 2 (3 ∷ 0 ∷ 4 ∷ 0 ∷ []) in
     (isolated es 0 ≡ true) × (occurrences 2 (getD ks 0 0) (run 2 ks es 2 .labels) ≡ 1)
 unfolding openText openLetters openOrder openKmer openCounted openTable openWalks openLabels openContraction openWindows
 p4-isolated = (refl, refl)
+
+-- What the definitions count, computed: a k-mer is shown and occurs on either strand, and every label is counted.
+pub either-strand : (seenIn 3 (bytes "GGGGT" ∷ []) 5 ≡ true) × (occurs 3 5 (bytes "GGT") ≡ 1)
+unfolding openText openLetters openKmer openGrown openWindows
+either-strand = (refl, refl)
+
+pub every-label :
+    (sightedIn sameCanonical 3 (bytes "ACGG" ∷ bytes "ACGG" ∷ []) 6 (slotOf Back 2) ≡ 2)
+    × (occurrences 3 6 (bytes "ACG" ∷ bytes "CCG" ∷ []) ≡ 1)
+unfolding openText openLetters openKmer openCounted openSightings openGrown openWindows
+every-label = (refl, refl)
