@@ -5,7 +5,7 @@ use Prim.Native.Char.{code}
 use mathlib.Core.Bool.{Bool, true, false, cond, _||_}
 use mathlib.Core.List.{List, [], _∷_, _++_}
 use lib.Dec.{eqb}
-use lib.ListN.{length, drop}
+use lib.ListN.{length, take, drop}
 
 -- The bytes of a text in quotes.
 abbrev pub bytes : String → List ℕ
@@ -20,6 +20,10 @@ among b (x ∷ s) = eqb b x || among b s
 -- A text written from a slice's first cell on; nothing past it changes.
 abbrev pub over : List ℕ → List ℕ → List ℕ
 over text slice = text ++ drop (length text) slice
+
+-- A part of a text: so many bytes from a start on, as far as the text goes.
+abbrev pub part : List ℕ → ℕ → ℕ → List ℕ
+part text start n = take n (drop start text)
 
 -- Opens this file's definitions to a proof that computes.
 unfoldable pub openText : Unit {0}

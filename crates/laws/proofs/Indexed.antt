@@ -1,34 +1,18 @@
 -- Labels in the order of the index: the same labels, and in ascending order where no k-mer occurs twice. Assumes nothing.
-use mathlib.Core.Path.{_≡_, refl, sym, ap, _∙_}
-use mathlib.Core.Bool.{true, false}
+use mathlib.Core.Path.{_≡_, refl, ap, _∙_}
+use mathlib.Core.Bool.{false}
 use mathlib.Core.Logic.{⊎-elim}
 use mathlib.Core.List.{List, [], _∷_, map}
-use Prim.Native.Nat.{ℕ, suc, _+_, _≤_, _<_}
-use native.Mathlib.Decide.{decLt}
+use Prim.Native.Nat.{ℕ, suc, _+_, _≤_}
 use native.Mathlib.Omega.{arith}
 use lib.ListN.{length}
-use Rattle.lemmas.proofs.Tests.{choose, never}
+use Rattle.lemmas.proofs.Tests.{choose}
 use Rattle.lemmas.proofs.Numbers.{true-or-false}
 use Rattle.dna.specs.Order.{before}
-use Rattle.dna.proofs.Order.{head-less, head-same, before-asym}
+use Rattle.dna.proofs.Order.{before-asym, before-same}
 use Rattle.graph.specs.Contraction.{Entry, entries, putIn, sorted}
 use Rattle.laws.specs.Windows.{occurs, occurrences}
 use Rattle.laws.specs.Demand.{Each, Each.none, Each.more, Ascending, Ascending.asc-none, Ascending.asc-one, Ascending.asc}
-
--- Two texts of which neither stands before the other are one.
-pub before-same : (a b : List ℕ) → before a b ≡ false → before b a ≡ false → a ≡ b
-unfolding before
-before-same [] [] h k = refl
-before-same [] (y ∷ b) h k = never true refl h
-before-same (x ∷ a) [] h k = never true refl k
-before-same (x ∷ a) (y ∷ b) h k = go (before-same a b) (decLt x y) (decLt y x)
-  where
-    go : (before a b ≡ false → before b a ≡ false → a ≡ b) → Dec (x < y) → Dec (y < x) → _≡_ {A = List ℕ} (x ∷ a) (y ∷ b)
-    go ih (yes l) d = never (before (x ∷ a) (y ∷ b)) (head-less a b l) h
-    go ih (no l) (yes m) = never (before (y ∷ b) (x ∷ a)) (head-less b a m) k
-    go ih (no l) (no m) =
-        let e : x ≡ y = omega arith in
-        let r = ih (sym (head-same a b e) ∙ h) (sym (head-same b a (sym e)) ∙ k) in cc
 
 abbrev pub labelsOf : List Entry → List (List ℕ)
 labelsOf es = map (λ (e : Entry). e .label) es
