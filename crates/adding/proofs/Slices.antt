@@ -2,13 +2,14 @@
 use mathlib.Core.Path.{_≡_, refl, sym, ap, _∙_}
 use mathlib.Core.Bool.{Bool, true, false}
 use mathlib.Core.List.{List}
-use Prim.Native.Nat.{ℕ, suc, _+_, _-_, _*_, _^_, _≤_, _<_}
+use Prim.Native.Nat.{ℕ, suc, _+_, _*_, _^_, _≤_, _<_}
 use native.Mathlib.Omega.{arith}
 use lib.ListN.{length, getD, take, drop, take-append-drop}
-use lib.Seq.{length-take-le, drop-append-add, drop-drop}
+use lib.Seq.{length-take-le}
 use borrow.Author.Tests.{lt-ltb}
 use Rattle.dna.specs.Text.{over}
 use Rattle.dna.specs.Answer.{gives}
+use Rattle.dna.proofs.Overwriting.{over-over}
 use Rattle.graph.specs.Table.{Table, tableOf, keysOf, wordsOf, capacity, fit, rank, stored, store, insertAt}
 use Rattle.graph.proofs.Keys.{words-length, words-keys}
 use Rattle.graph.proofs.Accepted.{fit-room, fit-length, table-over}
@@ -18,12 +19,6 @@ use Rattle.graph.proofs.Store.{Sound, store-there, store-new}
 use Rattle.table.specs.Calls.{Storing, storeAt, storeCall}
 use Rattle.table.proofs.Ranked.{find-rank}
 use Rattle.adding.specs.Says.{Holds}
-
--- A second text that is no shorter hides the first.
-pub over-over : (a b s : List ℕ) → length a ≤ length b → over b (over a s) ≡ over b s
-over-over a b s h =
-    let e : length b ≡ length a + (length b - length a) = omega arith in
-    rw (e, drop-append-add a (drop (length a) s) (length b - length a), drop-drop (length b - length a) (length a) s)
 
 module _ (K n : ℕ) (keys counts : List ℕ) (f : fit K n keys counts ≡ true) where
   pub fit-counts : length (take n counts) ≡ n

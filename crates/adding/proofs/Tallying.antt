@@ -22,7 +22,8 @@ use Rattle.table.specs.declared.Found.{Found}
 use Rattle.table.specs.declared.Found.the-variants.{At, Gap}
 use Rattle.table.proofs.Ranked.{find-rank}
 use Rattle.adding.specs.Says.{Ready, sightedWord}
-use Rattle.adding.proofs.Slices.{fit-counts, over-over}
+use Rattle.dna.proofs.Overwriting.{over-over}
+use Rattle.adding.proofs.Slices.{fit-counts}
 use Rattle.adding.proofs.Sighting.{window-sighted}
 
 module _ {K : ℕ} {label : List ℕ} {n : ℕ} {keys counts : List ℕ} (y : Ready K label n keys counts) where

@@ -18,7 +18,8 @@ use Rattle.graph.proofs.Store.{Sound}
 use Rattle.adding.specs.Says.{Adds, Addable, Holds, Ready, storedAfter}
 use Rattle.adding.specs.declared.AddAnswer.the-variants as add
 use Rattle.adding.proofs.Grown.{windows-all}
-use Rattle.adding.proofs.Slices.{over-over, holds-table}
+use Rattle.dna.proofs.Overwriting.{over-over}
+use Rattle.adding.proofs.Slices.{holds-table}
 
 module _ {K : ℕ} {label : List ℕ} {n : ℕ} {keys counts : List ℕ} (y : Addable K label n keys counts) where
   abbrev before : Table

@@ -6,3 +6,4 @@ pub mod Chase
 pub mod Reversal
 pub mod Iupac
 pub mod Calls
+pub mod Overwriting

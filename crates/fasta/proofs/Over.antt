@@ -6,15 +6,12 @@ use native.Mathlib.Numerals.{add-one}
 use native.Mathlib.Omega.{arith}
 use borrow.Rule.Slice.PartAt.{part-to-end}
 use borrow.Rule.Slice.PartMut.{midOf, postOf, putMid, post-is}
-use lib.ListN.{length, take, drop, set, length-append, length-drop}
+use lib.ListN.{length, take, drop, set, length-append}
 use lib.Seq.{drop-length, take-append-seam, drop-append-seam, drop-drop, drop-cons, set-append-seam, append-snoc}
 use Rattle.dna.specs.Text.{over}
+use Rattle.dna.proofs.Overwriting.{length-over}
 
 module _ (text slice : List ℕ) where
-  -- The slice keeps its length.
-  pub length-over : length text ≤ length slice → length (over text slice) ≡ length slice
-  length-over h = simp (length-append, length-drop) (omega arith)
-
   -- A second text behind the first.
   pub over-more : (more : List ℕ)
       → take (length text) (over text slice) ++ over more (drop (length text) (over text slice)) ≡ over (text ++ more) slice

@@ -9,7 +9,8 @@ use lib.ListN.{length, getD, take, drop, length-append}
 use Rattle.dna.specs.Text.{over}
 use Rattle.graph.specs.Fasta.{recordOf, records, within}
 use Rattle.fasta.specs.Sizes.{sizeOf}
-use Rattle.fasta.proofs.Over.{length-over, over-rest}
+use Rattle.dna.proofs.Overwriting.{length-over}
+use Rattle.fasta.proofs.Over.{over-rest}
 use Rattle.fasta.proofs.Entries.{within-long, within-at, within-all}
 use Rattle.fasta.proofs.Records.{length-record, length-label, sizes-next, sizes-le, records-next, records-size}
 

@@ -36,3 +36,4 @@ pub mod Entered
 pub mod Isolated
 pub mod Demand
 pub mod Asked
+pub mod Again

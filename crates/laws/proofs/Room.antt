@@ -43,11 +43,11 @@ unfolding total
 total-zeros zero = refl
 total-zeros (suc n) = omega (arith, total-zeros n)
 
-end-to-end-snoc : (ls : List (List ℕ)) (l : List ℕ) → length (endToEnd (ls ++ (l ∷ []))) ≡ length (endToEnd ls) + length l
+pub total-snoc : (ls : List (List ℕ)) (l : List ℕ) → length (endToEnd (ls ++ (l ∷ []))) ≡ length (endToEnd ls) + length l
 unfolding endToEnd
-end-to-end-snoc [] l = length-append l [] ∙ omega arith
-end-to-end-snoc (m ∷ ls) l =
-    omega (arith, length-append m (endToEnd (ls ++ (l ∷ []))), length-append m (endToEnd ls), end-to-end-snoc ls l)
+total-snoc [] l = length-append l [] ∙ omega arith
+total-snoc (m ∷ ls) l =
+    omega (arith, length-append m (endToEnd (ls ++ (l ∷ []))), length-append m (endToEnd ls), total-snoc ls l)
 
 at-least : (K m : ℕ) → 1 ≤ K → K + m ≤ K * suc m
 at-least K zero h = omega (arith, mul-suc K 0, mul-zero K)
@@ -99,7 +99,7 @@ module _ (K : ℕ) (ks : List ℕ) (es : List Ends) (one : 1 ≤ K) (fit : fitFr
       let sum : total after ≡ total marks + suc (length front + length back) = taken-total K ks es k h (r .long) (r .bits) f in
       omega (
         arith,
-        end-to-end-snoc ls l,
+        total-snoc ls l,
         label-length K ks es (labelled K ks es t q k h) one fit known,
         tour-room t (omega arith),
         at-least K (length front + length back) one,

@@ -3,7 +3,7 @@ use mathlib.Core.Path.{refl, ap, _∙_}
 use native.Mathlib.Omega.{arith}
 use lib.ListN.{length, length-set, length-take, length-drop}
 use Rattle.graph.specs.Fasta.{recordOf}
-use Rattle.fasta.proofs.Over.{length-over}
+use Rattle.dna.proofs.Overwriting.{length-over}
 use Rattle.fasta.proofs.Records.{length-record}
 use Rattle.fasta.proofs.OneRecord.{framed}
 use borrow.Author.Needs.{needs}

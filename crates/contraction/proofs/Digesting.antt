@@ -1,0 +1,54 @@
+-- Each cell of a slice computed anew, one after the other. Assumes nothing.
+use mathlib.Core.Path.{_≡_, sym, ap, _∙_}
+use mathlib.Core.List.{List, map, append-nil}
+use Prim.Native.Nat.{ℕ, suc, _+_, _≤_, _<_}
+use native.Mathlib.Omega.{arith}
+use lib.ListN.{length, getD, take, drop, set, replicate, length-map, length-replicate, getD-replicate}
+use lib.Seq.{length-take-le, drop-cons, getD-at, getD-take, drop-length}
+use Rattle.lemmas.proofs.Building.{Built, built-more, built-all}
+use Rattle.lemmas.proofs.Lists.{getD-map}
+
+module _ (text slice₀ slice : List ℕ) (i : ℕ) (b : Built text slice₀ slice i) where
+  -- The cell to be written next is as it was.
+  built-rest : i < length slice₀ → getD slice i 0 ≡ getD slice₀ i 0
+  built-rest h =
+      rw (b .cells, drop-cons slice₀ i 0 h)
+      (getD-at (take i text) (getD slice₀ i 0) (drop (suc i) slice₀) 0 i (length-take-le i text (b .within)))
+
+  pub built-whole : length text ≡ length slice₀ → length slice₀ ≤ i → slice ≡ text
+  built-whole e h = built-all text slice₀ slice i b (omega arith) ∙ rw (e, drop-length, append-nil)
+
+module _ (f : ℕ → ℕ) (slice₀ slice : List ℕ) (i : ℕ) (b : Built (map f slice₀) slice₀ slice i) where
+  -- Each cell computed from itself.
+  pub mapped-more : i < length slice₀ → Built (map f slice₀) slice₀ (set slice i (f (getD slice i 0))) (i + 1)
+  mapped-more h =
+      built-more (map f slice₀) slice₀ slice i b (f (getD slice i 0)) (omega (arith, length-map slice₀ f)) h
+      (ap f (built-rest (map f slice₀) slice₀ slice i b h) ∙ sym (getD-map f slice₀ i h))
+
+  pub mapped-all : length slice₀ ≤ i → slice ≡ map f slice₀
+  mapped-all h = built-whole (map f slice₀) slice₀ slice i b (length-map slice₀ f) h
+
+module _ (f : ℕ → ℕ) (ws slice₀ slice : List ℕ) (i : ℕ) (room : length slice₀ ≤ length ws)
+    (b : Built (map f (take (length slice₀) ws)) slice₀ slice i) where
+  length-first : length (map f (take (length slice₀) ws)) ≡ length slice₀
+  length-first = length-map (take (length slice₀) ws) f ∙ length-take-le (length slice₀) ws room
+
+  -- Each cell computed from that of another slice.
+  pub first-more : (v : ℕ) → i < length slice₀ → v ≡ f (getD ws i 0)
+      → Built (map f (take (length slice₀) ws)) slice₀ (set slice i v) (i + 1)
+  first-more v h e =
+      let l : i < length (take (length slice₀) ws) = omega (arith, length-take-le (length slice₀) ws room) in
+      built-more (map f (take (length slice₀) ws)) slice₀ slice i b v (omega (arith, length-first)) h
+      (e ∙ sym (getD-map f (take (length slice₀) ws) i l ∙ ap f (getD-take (length slice₀) ws i 0 h)))
+
+  pub first-all : length slice₀ ≤ i → slice ≡ map f (take (length slice₀) ws)
+  first-all h = built-whole (map f (take (length slice₀) ws)) slice₀ slice i b length-first h
+
+module _ (slice₀ slice : List ℕ) (i : ℕ) (b : Built (replicate (length slice₀) 0) slice₀ slice i) where
+  pub zeros-more : i < length slice₀ → Built (replicate (length slice₀) 0) slice₀ (set slice i 0) (i + 1)
+  zeros-more h =
+      built-more (replicate (length slice₀) 0) slice₀ slice i b 0 (omega (arith, length-replicate {A = ℕ} (length slice₀) 0)) h
+      (sym (getD-replicate (length slice₀) i 0 0 h))
+
+  pub zeros-all : length slice₀ ≤ i → slice ≡ replicate (length slice₀) 0
+  zeros-all h = built-whole (replicate (length slice₀) 0) slice₀ slice i b (length-replicate {A = ℕ} (length slice₀) 0) h

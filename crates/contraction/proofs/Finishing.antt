@@ -1,0 +1,108 @@
+-- How the contraction of a fit table ends: the refusals 8 and 9, and the labels written. Assumes nothing.
+use mathlib.Core.Path.{_≡_, refl, sym, ap, ap₂, _∙_}
+use mathlib.Core.Bool.{Bool, true, false, _||_}
+use mathlib.Core.List.{List, map}
+use Prim.Native.Nat.{ℕ, _%_}
+use native.Mathlib.Omega.{arith}
+use lib.Dec.{ltb}
+use lib.ListN.{length, take, replicate, length-replicate}
+use borrow.Author.Tests.{ltb-false}
+use Rattle.dna.specs.Text.{over}
+use Rattle.dna.specs.Answer.{gives}
+use Rattle.state.specs.Counted.{fourBits}
+use Rattle.graph.specs.Table.{keysOf, tableOf}
+use Rattle.graph.specs.Labels.{Run, run}
+use Rattle.graph.specs.Contraction.{entries, sorted, endToEnd, endsIn, written, finish}
+use Rattle.laws.proofs.Tours.{or-first, or-second}
+use Rattle.contraction.specs.Marks.{markOf, Ready, runIn}
+use Rattle.contraction.specs.Says.{Contracts, Table, Surveys, Roomy, Unvisited, Lists, finishIn}
+use Rattle.contraction.specs.declared.ContractAnswer.the-variants as answers
+use Rattle.dna.proofs.Overwriting.{over-all}
+use Rattle.contraction.proofs.Digested.{ready, clean, run-is, unvisited}
+
+-- The marks are those that the table's words give, and all walks were followed over them.
+module _ (K cutoff : ℕ) (keys counts labels starts lengths ms₀ : List ℕ) (t : Table K keys counts ms₀) {ms : List ℕ}
+    (d : ms ≡ map (markOf fourBits cutoff) (take (length ms₀) counts)) {number bases : ℕ} {missing : Bool} {after : List ℕ}
+    (s : Surveys K keys ms (length ms) number bases missing after) where
+  abbrev all : Run
+  all = run K (keysOf (length ms₀) keys) (endsIn fourBits cutoff (tableOf (length ms₀) keys counts)) (length ms₀)
+
+  same : runIn K keys ms (length ms) ≡ all
+  same = run-is K cutoff keys counts ms₀ t d
+
+  missed-is : all .missed ≡ missing
+  missed-is = sym (s .missed ∙ ap (λ (r : Run). r .missed) same)
+
+  number-is : length (all .labels) ≡ number
+  number-is = sym (s .number ∙ ap (λ (r : Run). length (r .labels)) same)
+
+  bases-is : length (endToEnd (all .labels)) ≡ bases
+  bases-is = sym (s .total ∙ ap (λ (r : Run). length (endToEnd (r .labels))) same)
+
+  abbrev lacking : Bool
+  lacking = ltb (length labels) bases || ltb (length starts) number || ltb (length lengths) number
+
+  lacking-is : (ltb (length labels) (length (endToEnd (all .labels))) || ltb (length starts) (length (all .labels))
+      || ltb (length lengths) (length (all .labels))) ≡ lacking
+  lacking-is = rw (bases-is, number-is)
+
+  zeros : {marks : List ℕ} → marks ≡ replicate (length after) 0 → length after ≡ length ms₀
+      → marks ≡ over (replicate (length ms₀) 0) ms₀
+  zeros e l =
+      e ∙ ap (λ (n : ℕ). replicate n 0) l
+      ∙ sym (over-all (replicate (length ms₀) 0) ms₀ (length-replicate {A = ℕ} (length ms₀) 0))
+
+  pub missing-vertex : missing ≡ true → {marks : List ℕ} → marks ≡ replicate (length after) 0 → length after ≡ length ms₀
+      → Contracts answers.MissingVertex labels starts lengths marks (finishIn K cutoff (length ms₀) keys counts labels starts lengths ms₀)
+  unfolding finish
+  missing-vertex h e l =
+      rw (missed-is, h)
+      (record { answer = refl; labels-after = refl; starts-after = refl; lengths-after = refl; marks-after = zeros e l })
+
+  module _ (h : missing ≡ false) where
+    pub no-room : {short : Bool} → short ≡ lacking → short ≡ true → {marks : List ℕ} → marks ≡ replicate (length after) 0
+        → length after ≡ length ms₀
+        → Contracts answers.NoRoom labels starts lengths marks (finishIn K cutoff (length ms₀) keys counts labels starts lengths ms₀)
+    unfolding finish
+    no-room q k e l =
+        rw (missed-is, h, lacking-is, ← q, k)
+        (record { answer = refl; labels-after = refl; starts-after = refl; lengths-after = refl; marks-after = zeros e l })
+
+    module _ {short : Bool} (q : short ≡ lacking) (k : short ≡ false) {ms₁ : List ℕ} (u : ms₁ ≡ map (λ m. m % 64) after) where
+      -- Without their visits, the marks are as they were before the walks.
+      back : ms₁ ≡ ms
+      back = u ∙ unvisited K cutoff keys counts ms₀ t d after (s .ends-kept)
+
+      room : Roomy K keys ms (length labels) (length starts) (length lengths)
+      room =
+          let b : Bool = ltb (length labels) bases in
+          let c : Bool = ltb (length starts) number in
+          let d : Bool = ltb (length lengths) number in
+          let l = or-first (b || c) d (sym q ∙ k) in
+          record {
+            bases-fit = omega (arith, ltb-false (length labels) bases (or-first b c l), s .total);
+            starts-fit = omega (arith, ltb-false (length starts) number (or-second b c l), s .number);
+            lengths-fit = omega (arith, ltb-false (length lengths) number (or-second (b || c) d (sym q ∙ k)), s .number);
+          }
+
+      pub writable : Ready K keys ms₁ × Unvisited ms₁ × Roomy K keys ms₁ (length labels) (length starts) (length lengths)
+      writable = rw back (ready K cutoff keys counts ms₀ t d, clean K cutoff keys counts ms₀ t d, room)
+
+      pub contracted : {count : ℕ} {marks labels′ starts′ lengths′ : List ℕ}
+          → (count ≡ length (runIn K keys ms₁ (length ms₁) .labels)) × (marks ≡ runIn K keys ms₁ (length ms₁) .marks)
+          × Lists (runIn K keys ms₁ (length ms₁)) (sorted (entries 0 (runIn K keys ms₁ (length ms₁) .labels)))
+          labels labels′ starts starts′ lengths lengths′
+          → length marks ≡ length ms₀
+          → Contracts (answers.Contracted count bases) labels′ starts′ lengths′ marks
+          (finishIn K cutoff (length ms₀) keys counts labels starts lengths ms₀)
+      unfolding finish written
+      contracted w₀ l =
+          let w = rw (back, same) at w₀ in
+          rw (missed-is, h, lacking-is, ← q, k)
+          (record {
+            answer = ap₂ (λ (n b : ℕ). gives (record { labels = n; bases = b })) (w .0) (sym bases-is);
+            labels-after = w .2 .letters;
+            starts-after = w .2 .starts-after;
+            lengths-after = w .2 .lengths-after;
+            marks-after = w .1 ∙ sym (over-all (all .marks) ms₀ (sym (ap length (w .1)) ∙ l));
+          })

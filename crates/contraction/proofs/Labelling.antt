@@ -1,0 +1,107 @@
+-- An anchor's two walks, and the length of the label that they make. Assumes nothing.
+use mathlib.Core.Path.{_≡_, refl, sym, ap, _∙_}
+use mathlib.Core.Bool.{Bool, true, false, cond, _||_}
+use mathlib.Core.List.{List, _++_, map}
+use Prim.Native.Nat.{ℕ, _+_, _≤_}
+use native.Mathlib.Omega.{arith}
+use borrow.Author.Tests.{leb-true}
+use lib.Dec.{leb}
+use lib.ListN.{length, getD, length-append, length-map}
+use Rattle.lemmas.proofs.Tests.{choose, both}
+use Rattle.dna.specs.Letters.{letterOf, reverseComplement}
+use Rattle.dna.specs.Order.{before}
+use Rattle.dna.proofs.Reversal.{length-reverseComplement}
+use Rattle.kmer.specs.Kmer.{rc, letters}
+use Rattle.kmer.proofs.Spelling.{length-letters}
+use Rattle.state.specs.declared.Side.the-variants.{Front, Back}
+use Rattle.graph.specs.declared.Step.{Step}
+use Rattle.graph.specs.declared.Step.the-variants.{Next, Stop, Missing}
+use Rattle.graph.specs.Table.{keysOf}
+use Rattle.graph.specs.Walks.{Ends, Walk, walk, closed, missing}
+use Rattle.graph.specs.Labels.{lesser, spelt, labelOf, extract}
+use Rattle.contraction.specs.Marks.{ends, visits, keysFor, walkIn, labelIn, Ready}
+use Rattle.contraction.specs.Says.{Walks, Extracts}
+use Rattle.contraction.specs.declared.Walked.{Walked}
+use Rattle.contraction.proofs.Marking.{ends-length}
+
+lesser-length : (l : List ℕ) → length (lesser l) ≡ length l
+unfolding lesser
+lesser-length l =
+    choose (λ (m : List ℕ). length m ≡ length l) (before (reverseComplement l) l) (λ _. length-reverseComplement l) (λ _. refl)
+
+spelt-length : (K x : ℕ) (w : Walk) → length (spelt K x w) ≡ K + length (w .bases)
+spelt-length K x w =
+    omega (arith, length-append (letters K x) (map letterOf (w .bases)), length-letters K x, length-map (w .bases) letterOf)
+
+module _ (K : ℕ) (ks : List ℕ) (es : List Ends) (x : ℕ) (back front : Walk) where
+  pub label-length : length (labelOf K ks es x back front) ≡ cond (closed (back .last)) K (K + length (front .bases)) + length (back .bases)
+  label-length =
+      let turned = reverseComplement (spelt K (rc K x) front) in
+      let text = cond (closed (back .last)) (spelt K x back) (turned ++ map letterOf (back .bases)) in
+      lesser-length text ∙ go (closed (back .last))
+    where
+      go : (t : Bool) → length (cond t (spelt K x back) (reverseComplement (spelt K (rc K x) front) ++ map letterOf (back .bases)))
+          ≡ cond t K (K + length (front .bases)) + length (back .bases)
+      go true = spelt-length K x back
+      go false = omega (
+        arith,
+        length-append (reverseComplement (spelt K (rc K x) front)) (map letterOf (back .bases)),
+        length-reverseComplement (spelt K (rc K x) front),
+        spelt-length K (rc K x) front,
+        length-map (back .bases) letterOf,
+      )
+
+-- A walk that closed a cycle came to no missing vertex.
+closed-found : (st : Step) → closed st ≡ true → missing st ≡ false
+closed-found (Next v s b) h = refl
+closed-found (Stop why) h = refl
+closed-found Missing h = sym h
+
+pub k-small : {K : ℕ} {keys ms : List ℕ} → Ready K keys ms → K ≤ 63
+k-small {K} r = leb-true K 63 (both (leb 1 K) (leb K 63) (r .ok) .1)
+
+module _ {K : ℕ} {keys ms : List ℕ} (r : Ready K keys ms) (a : ℕ) {b : Walked} {ms₁ : List ℕ} (back : Walks K keys ms a Back b ms₁) where
+  abbrev B : Walk
+  B = walkIn K keys ms a Back
+
+  abbrev F : Walk
+  F = walk K (keysFor ms keys) (ends ms) a Front (B .marks)
+
+  label-long : {t : Bool} → closed (b .last) ≡ t → length (labelIn K keys ms a) ≡ cond t K (K + length (F .bases)) + length (B .bases)
+  label-long c =
+      label-length K (keysFor ms keys) (ends ms) (getD (keysFor ms keys) a 0) B F
+      ∙ ap (λ (t : Bool). cond t K (K + length (F .bases)) + length (B .bases)) (ap closed (sym (back .last)) ∙ c)
+
+  pub extracts-closed : closed (b .last) ≡ true → Extracts K keys ms a (record { bases = K + b .bases; missing = false }) ms₁
+  unfolding extract
+  extracts-closed h =
+      let c : closed (B .last) ≡ true = ap closed (sym (back .last)) ∙ h in
+      record {
+        bases = omega (arith, label-long h, back .bases);
+        missed = rw (closed-found (B .last) c, c);
+        ends-kept = back .ends-kept;
+        visits-after = rw c (back .visits-after);
+        few = omega (arith, back .few, r .few, k-small r);
+      }
+
+  -- The Front walk starts from the marks that the Back walk left.
+  module _ {f : Walked} {ms₂ : List ℕ} (front : Walks K keys ms₁ a Front f ms₂) where
+    front-is : walkIn K keys ms₁ a Front ≡ F
+    front-is =
+        ap (λ (n : ℕ). walk K (keysOf n keys) (ends ms₁) a Front (visits ms₁)) (ends-length ms ms₁ (back .ends-kept))
+        ∙ ap (λ (es : List Ends). walk K (keysFor ms keys) es a Front (visits ms₁)) (back .ends-kept)
+        ∙ ap (λ (m : List ℕ). walk K (keysFor ms keys) (ends ms) a Front m) (back .visits-after)
+
+    pub extracts-open : closed (b .last) ≡ false → {t : Bool} → t ≡ (missing (b .last) || missing (f .last))
+        → Extracts K keys ms a (record { bases = K + f .bases + b .bases; missing = t }) ms₂
+    unfolding extract
+    extracts-open h {t} e =
+        let c : closed (B .last) ≡ false = ap closed (sym (back .last)) ∙ h in
+        let l : f .last ≡ F .last = front .last ∙ ap (λ (w : Walk). w .last) front-is in
+        record {
+          bases = omega (arith, label-long h, back .bases, front .bases, ap (λ (w : Walk). length (w .bases)) front-is);
+          missed = e ∙ rw (back .last, l, c);
+          ends-kept = front .ends-kept ∙ back .ends-kept;
+          visits-after = front .visits-after ∙ rw (front-is, c);
+          few = omega (arith, back .few, front .few, ends-length ms ms₁ (back .ends-kept), r .few, k-small r);
+        }

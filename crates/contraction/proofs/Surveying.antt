@@ -1,0 +1,131 @@
+-- All anchors, one after the other: which are skipped, and what each label adds to the run. Assumes nothing.
+use mathlib.Core.Path.{_≡_, refl, sym, ap, ap₂, _∙_}
+use mathlib.Core.Bool.{Bool, true, false, cond, _||_}
+use mathlib.Core.List.{List, [], _∷_, _++_}
+use Prim.Native.Nat.{ℕ, suc, _+_, _*_, _/_, _≤_, _<_}
+use native.Mathlib.Omega.{arith}
+use borrow.Author.Tests.{eq-eqb, ne-eqb}
+use lib.Dec.{eqb}
+use lib.ListN.{length, getD, replicate, length-append}
+use Rattle.state.specs.declared.Side.the-variants.{Front, Back}
+use Rattle.graph.specs.Table.{keysOf}
+use Rattle.graph.specs.Walks.{Ends, visited, isolated}
+use Rattle.graph.specs.Labels.{Run, extract, run}
+use Rattle.graph.specs.Contraction.{endToEnd}
+use Rattle.laws.proofs.Room.{total-snoc}
+use Rattle.contraction.specs.Marks.{endIn, ends, visits, keysFor, extractIn, labelIn, runIn, Ready}
+use Rattle.contraction.specs.Says.{Unvisited, Extracts, Surveys}
+use Rattle.contraction.specs.declared.Extracted.{Extracted}
+use Rattle.contraction.proofs.Marking.{edge-is, visited-is, ends-length, keys-marks}
+
+-- A vertex that is no anchor, as its mark says.
+module _ (ms : List ℕ) (a : ℕ) (h : a < length ms) where
+  pub skipped-visited : getD ms a 0 / 64 ≡ 1 → true ≡ (visited (visits ms) a || isolated (ends ms) a)
+  skipped-visited e = rw (visited-is ms a h, eq-eqb (getD ms a 0 / 64) 1 e)
+
+  module _ (fresh : getD ms a 0 / 64 ≡ 1 → ⊥) {e : ℕ} (q : e ≡ endIn (getD ms a 0) Front) where
+    pub skipped-front : (e ≡ 5 → ⊥) → false ≡ (visited (visits ms) a || isolated (ends ms) a)
+    skipped-front n = rw (visited-is ms a h, ne-eqb (getD ms a 0 / 64) 1 fresh, edge-is ms a h Front, sym q, ne-eqb e 5 n)
+
+    pub skipped-back : e ≡ 5 → {d : ℕ} → d ≡ endIn (getD ms a 0) Back → eqb d 5 ≡ (visited (visits ms) a || isolated (ends ms) a)
+    skipped-back i {d} p =
+        rw (visited-is ms a h, ne-eqb (getD ms a 0 / 64) 1 fresh, edge-is ms a h Front, sym q, i, edge-is ms a h Back, sym p)
+
+or-assoc : (t u v : Bool) → (t || u || v) ≡ (t || (u || v))
+or-assoc true u v = refl
+or-assoc false u v = refl
+
+-- A run that has marks and nothing else.
+abbrev from : List ℕ → Run
+from marks = record { marks = marks; labels = []; missed = false }
+
+-- The first a anchors are done.
+pub record Surveying (K : ℕ) (keys ms : List ℕ) (a labels bases : ℕ) (missing : Bool) (now : List ℕ) : Type 0 where
+  pub ready : Ready K keys ms
+  pub within : a ≤ length ms
+  pub fewer : labels ≤ a
+  pub room : bases ≤ a * 200000
+  pub surveys : Surveys K keys ms a labels bases missing now
+
+module _ {K : ℕ} {keys ms : List ℕ} where
+  pub surveying-start : Ready K keys ms → Unvisited ms → Surveying K keys ms 0 0 0 false ms
+  unfolding run endToEnd
+  surveying-start r u = record {
+    ready = r;
+    within = omega arith;
+    fewer = omega arith;
+    room = omega arith;
+    surveys = record {
+      number = refl;
+      total = refl;
+      missed = refl;
+      ends-kept = refl;
+      visits-after = u ∙ ap (λ (n : ℕ). replicate n 0) (sym (keys-marks r));
+    };
+  }
+
+  module _ {a labels bases : ℕ} {missing : Bool} {now : List ℕ} (g : Surveying K keys ms a labels bases missing now)
+      (h : a < length ms) where
+    -- The next anchor, by whether it is skipped.
+    run-on : {t : Bool} → t ≡ (visited (visits now) a || isolated (ends now) a)
+        → runIn K keys ms (a + 1) ≡ cond t (runIn K keys ms a) (extract K (keysFor ms keys) (ends ms) (runIn K keys ms a) a)
+    unfolding run
+    run-on {t} e =
+        let n : a + 1 ≡ suc a = omega arith in
+        let r = runIn K keys ms a in
+        let f : t ≡ (visited (r .marks) a || isolated (ends ms) a) = e ∙ rw (g .surveys .ends-kept, g .surveys .visits-after) in
+        ap (runIn K keys ms) n ∙ ap (λ (b : Bool). cond b r (extract K (keysFor ms keys) (ends ms) r a)) (sym f)
+
+    pub surveying-skip : true ≡ (visited (visits now) a || isolated (ends now) a) → Surveying K keys ms (a + 1) labels bases missing now
+    surveying-skip e =
+        let s = g .surveys in
+        let q : runIn K keys ms (a + 1) ≡ runIn K keys ms a = run-on e in
+        record {
+          ready = g .ready;
+          within = omega arith;
+          fewer = omega (arith, g .fewer);
+          room = omega (arith, g .room);
+          surveys = record {
+            number = rw q (s .number);
+            total = rw q (s .total);
+            missed = rw q (s .missed);
+            ends-kept = s .ends-kept;
+            visits-after = rw q (s .visits-after);
+          };
+        }
+
+    pub surveying-take : false ≡ (visited (visits now) a || isolated (ends now) a) → {l : Extracted} {after : List ℕ}
+        → Extracts K keys now a l after → {t : Bool} → t ≡ (missing || l .missing)
+        → Surveying K keys ms (a + 1) (labels + 1) (bases + l .bases) t after
+    unfolding extract
+    surveying-take e {l} {after} x {t} m =
+        let s = g .surveys in
+        let r = runIn K keys ms a in
+        let next : runIn K keys ms (a + 1) ≡ extract K (keysFor ms keys) (ends ms) r a = run-on e in
+        let alone : extractIn K keys now a ≡ extract K (keysFor ms keys) (ends ms) (from (r .marks)) a =
+        ap (λ (n : ℕ). extract K (keysOf n keys) (ends now) (from (visits now)) a) (ends-length ms now (s .ends-kept))
+        ∙ ap (λ (es : List Ends). extract K (keysFor ms keys) es (from (visits now)) a) (s .ends-kept)
+        ∙ ap (λ (m : List ℕ). extract K (keysFor ms keys) (ends ms) (from m) a) (s .visits-after) in
+        let listed : runIn K keys ms (a + 1) .labels ≡ r .labels ++ (labelIn K keys now a ∷ []) =
+        ap (λ (z : Run). z .labels) next ∙ ap (λ (z : Run). r .labels ++ z .labels) (sym alone) in
+        record {
+          ready = g .ready;
+          within = omega arith;
+          fewer = omega (arith, g .fewer);
+          room = omega (arith, g .room, x .few);
+          surveys = record {
+            number = omega (arith, s .number, ap length listed, length-append (r .labels) (labelIn K keys now a ∷ []));
+            total = omega (
+              arith,
+              s .total,
+              x .bases,
+              ap (λ (ls : List (List ℕ)). length (endToEnd ls)) listed,
+              total-snoc (r .labels) (labelIn K keys now a),
+            );
+            missed =
+                m ∙ ap₂ _||_ (s .missed) (x .missed ∙ ap (λ (z : Run). z .missed) alone) ∙ sym (or-assoc (r .missed) _ _)
+                ∙ sym (ap (λ (z : Run). z .missed) next);
+            ends-kept = x .ends-kept ∙ s .ends-kept;
+            visits-after = x .visits-after ∙ ap (λ (z : Run). z .marks) alone ∙ sym (ap (λ (z : Run). z .marks) next);
+          };
+        }

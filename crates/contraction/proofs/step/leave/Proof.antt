@@ -1,0 +1,68 @@
+-- In the order of the definition. Assumes nothing.
+use Rattle.dna.specs.Calls.{codeIn}
+use Rattle.kmer.specs.Says.{valueOf}
+use Rattle.contraction.proofs.Stepping.{leave-none, leave-several, leave-base, leave-below, leave-on}
+use borrow.Author.Needs.{needs}
+use Rattle.contraction.proofs.step.leave.Statement.{statement}
+use Rattle.contraction.proofs.step.leave.Tie as tie
+
+returns : tie.Need-returns
+returns c =
+    let s = c .before .before .before .before .before in
+    let a = s .args in
+    leave-none (s .pre .0) (a .anchor) (a .start) (a .v) (a .side) (s .pre .1) (c .before .edge-in .ensures) (c .if1 .taken)
+
+returns-2 : tie.Need-returns-2
+returns-2 c =
+    let s = c .before .before .before .before .before .before in
+    let a = s .args in
+    leave-several (s .pre .0) (a .anchor) (a .start) (a .v) (a .side) (s .pre .1) (c .before .before .edge-in .ensures) (c .if2 .taken)
+
+leaving-base-requires : tie.Need-leaving-base-requires
+leaving-base-requires c κs =
+    let s = c .before .before .before .before .before .before in
+    let a = s .args in
+    leave-base (s .pre .0) (a .anchor) (a .start) (a .v) (a .side) (s .pre .1)
+    (c .before .before .edge-in .ensures) (c .before .if1 .left) (c .if2 .left)
+
+arrive-requires : tie.Need-arrive-requires
+arrive-requires c κs =
+    let seen = c .before .before .before in
+    let left = seen .before in
+    let read = left .before .before .before in
+    let s = read .before .before .before .before in
+    let a = s .args in
+    let below =
+    leave-below (s .pre .0) (a .anchor) (a .start) (a .v) (a .side) (s .pre .1)
+    (read .edge-in .ensures) (left .before .before .if1 .left) (left .before .if2 .left)
+    (codeIn (left .leaving-base .result)) (left .leaving-base .ensures)
+    (valueOf (seen .seen-by .result)) (seen .seen-by .ensures) (c .before .before .roll-forward .ensures) in
+    (s .pre .0, below)
+
+returns-3 : tie.Need-returns-3
+returns-3 c =
+    let seen = c .before .before .before .before in
+    let left = seen .before in
+    let read = left .before .before .before in
+    let s = read .before .before .before .before in
+    let a = s .args in
+    leave-on (s .pre .0) (a .anchor) (a .start) (a .v) (a .side) (s .pre .1)
+    (read .edge-in .ensures) (left .before .before .if1 .left) (left .before .if2 .left)
+    (codeIn (left .leaving-base .result)) (left .leaving-base .ensures)
+    (valueOf (seen .seen-by .result)) (seen .seen-by .ensures) (c .before .before .before .roll-forward .ensures)
+    (c .before .bits .ensures) (c .arrive .ensures)
+
+pub leave-spec : {M : Type 1} → statement M
+leave-spec =
+    tie.close
+    (tie.spec
+    (λ c. search needs)
+    (λ c κs. search needs)
+    returns
+    returns-2
+    leaving-base-requires
+    (λ c κs. search needs)
+    (λ c κs. search needs)
+    (λ c κs. search needs)
+    arrive-requires
+    returns-3)

@@ -1,0 +1,159 @@
+-- What contraction answers in document 01's numbers, and what its parts say. Assumes nothing.
+use Prim.Native.Nat.{ℕ, suc, _+_, _/_, _≤_, _<_}
+use mathlib.Core.Path.{_≡_}
+use mathlib.Core.Bool.{Bool, true, false, cond}
+use mathlib.Core.List.{List, [], _∷_, map}
+use lib.Dec.{eqb}
+use lib.Seq.{paste}
+use lib.ListN.{length, getD, set, replicate}
+use Rattle.dna.specs.Text.{over, part}
+use Rattle.dna.specs.Answer.{Answer, gives, refuses}
+use Rattle.dna.specs.Letters.{letterOf}
+use Rattle.kmer.specs.Kmer.{okK}
+use Rattle.sorting.specs.Index.{Spot, sortedSpots}
+use Rattle.state.specs.Counted.{fourBits}
+use Rattle.state.specs.declared.Side.{Side}
+use Rattle.graph.specs.declared.Step.{Step}
+use Rattle.graph.specs.declared.Step.the-variants.{Next, Stop}
+use Rattle.graph.specs.declared.StopReason.the-variants.{VisitedAhead}
+use Rattle.graph.specs.Table.{tableOf, fitFrom}
+use Rattle.graph.specs.Walks.{visited}
+use Rattle.graph.specs.Labels.{Run, lesser, run}
+use Rattle.graph.specs.Contraction.{Entry, entries, sorted, endToEnd, endsIn, Totals, Contracted, finish}
+use Rattle.contraction.specs.Marks.{ends, visits, keysFor, enterIn, stepIn, walkIn, extractIn, labelIn, runIn, Ready}
+use Rattle.contraction.specs.declared.Walked.{Walked}
+use Rattle.contraction.specs.declared.Extracted.{Extracted}
+use Rattle.contraction.specs.declared.Surveyed.{Surveyed}
+use Rattle.contraction.specs.declared.ContractAnswer.{ContractAnswer}
+use Rattle.contraction.specs.declared.ContractAnswer.the-variants as contract
+
+-- The number of labels and their bases, or a refusal.
+abbrev pub contractAnswer : ContractAnswer → Answer Totals
+contractAnswer (contract.Contracted labels bases) = gives (record { labels = labels; bases = bases })
+contractAnswer (contract.UnsupportedK K) = refuses 1 (K ∷ [])
+contractAnswer contract.Unfit = refuses 5 []
+contractAnswer contract.FewMarks = refuses 7 []
+contractAnswer contract.MissingVertex = refuses 8 []
+contractAnswer contract.NoRoom = refuses 9 []
+
+-- A contraction: its answer, and the slices at exit.
+pub record Contracts (r : ContractAnswer) (labels starts lengths marks : List ℕ) (c : Contracted) : Type 0 where
+  pub answer : contractAnswer r ≡ c .answer
+  pub labels-after : labels ≡ c .labels
+  pub starts-after : starts ≡ c .starts
+  pub lengths-after : lengths ≡ c .lengths
+  pub marks-after : marks ≡ c .marks
+
+-- A step that comes to the anchor does not extend the walk.
+abbrev pub extended : ℕ → ℕ → Side → ℕ → Step
+extended a v s b = cond (eqb v a) (Stop (VisitedAhead false)) (Next v s b)
+
+-- Vertex w, to be entered by side t with base b, whatever the keys.
+abbrev pub Enters : List ℕ → ℕ → Side → ℕ → Side → ℕ → Step → Type 0
+Enters ms a start w t b r = (K : ℕ) (keys : List ℕ) → r ≡ enterIn K keys ms a start w t b
+
+-- What the parts leave in the marks, and say; over keys and the marks at entry.
+module _ (K : ℕ) (keys ms : List ℕ) where
+  -- Vertex v is marked and left by side s.
+  pub record Advances (a : ℕ) (start : Side) (v : ℕ) (s : Side) (r : Step) (after : List ℕ) : Type 0 where
+    pub stepped : r ≡ stepIn K keys after a start v s
+    pub ends-kept : ends after ≡ ends ms
+    pub visits-after : visits after ≡ set (visits ms) v 1
+
+  -- A walk: the number of bases appended, the last step.
+  pub record Walks (a : ℕ) (start : Side) (r : Walked) (after : List ℕ) : Type 0 where
+    pub bases : r .bases ≡ length (walkIn K keys ms a start .bases)
+    pub last : r .last ≡ walkIn K keys ms a start .last
+    pub ends-kept : ends after ≡ ends ms
+    pub visits-after : visits after ≡ walkIn K keys ms a start .marks
+    pub few : r .bases ≤ length ms
+
+  -- A walk whose letters stand in the buffer from a place on, where nothing else changed.
+  pub record Spells (a : ℕ) (start : Side) (r : Walked) (after buffer : List ℕ) (at : ℕ) (buffer′ : List ℕ) : Type 0 where
+    pub walks : Walks a start r after
+    pub letters : buffer′ ≡ paste buffer at (map letterOf (walkIn K keys ms a start .bases)) (length (walkIn K keys ms a start .bases))
+
+  -- Anchor a's label, unwritten: its length, and whether a vertex was missing.
+  pub record Extracts (a : ℕ) (r : Extracted) (after : List ℕ) : Type 0 where
+    pub bases : r .bases ≡ length (labelIn K keys ms a)
+    pub missed : r .missing ≡ extractIn K keys ms a .missed
+    pub ends-kept : ends after ≡ ends ms
+    pub visits-after : visits after ≡ extractIn K keys ms a .marks
+    pub few : r .bases ≤ 200000
+
+  -- Anchor a's label, written from a place of the buffer on.
+  pub record WritesLabel (a r : ℕ) (after buffer : List ℕ) (at : ℕ) (buffer′ : List ℕ) : Type 0 where
+    pub bases : r ≡ length (labelIn K keys ms a)
+    pub ends-kept : ends after ≡ ends ms
+    pub visits-after : visits after ≡ extractIn K keys ms a .marks
+    pub letters : buffer′ ≡ paste buffer at (labelIn K keys ms a) (length (labelIn K keys ms a))
+
+  -- The first a anchors, unwritten.
+  pub record Surveys (a labels bases : ℕ) (missing : Bool) (after : List ℕ) : Type 0 where
+    pub number : labels ≡ length (runIn K keys ms a .labels)
+    pub total : bases ≡ length (endToEnd (runIn K keys ms a .labels))
+    pub missed : missing ≡ runIn K keys ms a .missed
+    pub ends-kept : ends after ≡ ends ms
+    pub visits-after : visits after ≡ runIn K keys ms a .marks
+
+  -- The labels of all anchors have room.
+  pub record Roomy (buffer starts lengths : ℕ) : Type 0 where
+    pub bases-fit : length (endToEnd (runIn K keys ms (length ms) .labels)) ≤ buffer
+    pub starts-fit : length (runIn K keys ms (length ms) .labels) ≤ starts
+    pub lengths-fit : length (runIn K keys ms (length ms) .labels) ≤ lengths
+
+-- No vertex is visited.
+abbrev pub Unvisited : List ℕ → Type 0
+Unvisited ms = visits ms ≡ replicate (length ms) 0
+
+-- Starts and lengths of entries.
+abbrev pub startsOf : List Entry → List ℕ
+startsOf es = map (λ (e : Entry). e .start) es
+
+abbrev pub lengthsOf : List Entry → List ℕ
+lengthsOf es = map (λ (e : Entry). length (e .label)) es
+
+-- The labels of a run and their index in a buffer and two slices; entries are in the order given.
+pub record Lists (r : Run) (es : List Entry) (buffer buffer′ starts starts′ lengths lengths′ : List ℕ) : Type 0 where
+  pub letters : buffer′ ≡ over (endToEnd (r .labels)) buffer
+  pub starts-after : starts′ ≡ over (startsOf es) starts
+  pub lengths-after : lengths′ ≡ over (lengthsOf es) lengths
+
+-- The labels of the first a anchors, written end to end, with their index in anchor order.
+pub record Writes (K : ℕ) (keys ms : List ℕ) (a labels at : ℕ) (after buffer buffer′ starts starts′ lengths lengths′ : List ℕ) : Type 0 where
+  pub number : labels ≡ length (runIn K keys ms a .labels)
+  pub total : at ≡ length (endToEnd (runIn K keys ms a .labels))
+  pub ends-kept : ends after ≡ ends ms
+  pub visits-after : visits after ≡ runIn K keys ms a .marks
+  pub lists : Lists (runIn K keys ms a) (entries 0 (runIn K keys ms a .labels)) buffer buffer′ starts starts′ lengths lengths′
+
+-- The label that entry i of an index names in a buffer.
+abbrev pub labelAt : List ℕ → List ℕ → List ℕ → ℕ → List ℕ
+labelAt buffer starts lengths i = part buffer (getD starts i 0) (getD lengths i 0)
+
+-- An index names n labels of a buffer: each lies within, none is above its reverse complement, and no two are the same.
+pub record Normal (buffer starts lengths : List ℕ) (n : ℕ) : Type 0 where
+  pub starts-long : n ≤ length starts
+  pub lengths-long : n ≤ length lengths
+  pub within : (i : ℕ) → i < n → getD starts i 0 + getD lengths i 0 ≤ length buffer
+  pub canonical : (i : ℕ) → i < n → lesser (labelAt buffer starts lengths i) ≡ labelAt buffer starts lengths i
+  pub distinct : (i j : ℕ) → i < n → j < n → labelAt buffer starts lengths i ≡ labelAt buffer starts lengths j → i ≡ j
+
+-- A list of the first n entries in order: starts and lengths of an index, sorted.
+pub record Ordered (buffer starts lengths : List ℕ) (n : ℕ) (starts′ lengths′ : List ℕ) : Type 0 where
+  pub starts-after : starts′ ≡ over (map (λ (p : Spot). p .start) (sortedSpots buffer n starts lengths)) starts
+  pub lengths-after : lengths′ ≡ over (map (λ (p : Spot). p .length) (sortedSpots buffer n starts lengths)) lengths
+
+-- A fit table with as many vertices as there are marks.
+pub record Table (K : ℕ) (keys counts ms : List ℕ) : Type 0 where
+  pub ok : okK K ≡ true
+  pub room : length ms ≤ length keys / 2
+  pub counted : length ms ≤ length counts
+  pub few : length ms ≤ 65536
+  pub fits : fitFrom K 0 (keysFor ms keys) ≡ true
+
+-- What is left to do once the table is known to be fit and to have marks.
+abbrev pub finishIn : ℕ → ℕ → ℕ → List ℕ → List ℕ → List ℕ → List ℕ → List ℕ → List ℕ → Contracted
+finishIn K cutoff n keys counts labels starts lengths marks =
+    let t = tableOf n keys counts in
+    finish fourBits K cutoff n keys counts labels starts lengths marks (run K (t .keys) (endsIn fourBits cutoff t) n)

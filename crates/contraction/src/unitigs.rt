@@ -1,0 +1,137 @@
+// The whole contraction.
+ghost use mathlib.Core.Path.{_≡_};
+ghost use mathlib.Core.Bool.{_||_};
+ghost use Prim.Native.Nat.{_≤_};
+ghost use lib.Dec.{ltb};
+ghost use lib.ListN.{length, take};
+ghost use Rattle.state.specs.Counted.{fourBits};
+ghost use Rattle.graph.specs.Contraction.{contract as contracted, entries, sorted};
+ghost use Rattle.contraction.specs.Marks.{Ready, runIn};
+ghost use Rattle.contraction.specs.Says.{Contracts, Table, Roomy, Unvisited, Lists, finishIn};
+use super::ContractAnswer;
+use super::digest;
+use super::normal;
+use super::survey;
+use super::write;
+use table::FitAnswer;
+
+// The labels do not fit the buffer, or their entries do not fit either slice.
+fn lacks_room(buffer: usize, starts: usize, lengths: usize, bases: usize, labels: usize) -> bool
+    ensures { λ r. ⌜ r ≡ (ltb buffer bases || ltb starts labels || ltb lengths labels) ⌝ }
+{
+    if buffer < bases {
+        return true;
+    }
+    if starts < labels {
+        return true;
+    }
+    lengths < labels
+}
+
+// The labels and their index in byte order, for which there is room; how many there are. The marks are 0 and 1 afterwards.
+fn write_list(
+    k: usize,
+    keys: &[u64],
+    marks: &mut [u8],
+    labels: &mut [u8],
+    starts: &mut [u32],
+    lengths: &mut [u32],
+) -> usize
+    requires { ⌜ Ready k (now keys) (now marks) × Unvisited (now marks) × Roomy k (now keys) (now marks) (length (now labels)) (length (now starts)) (length (now lengths)) ⌝ }
+    ensures { λ r. ⌜ (r ≡ length (runIn k (now (keys .entry)) (now (marks .entry)) (length (now (marks .entry))) .labels)) × (now (marks .exit) ≡ runIn k (now (keys .entry)) (now (marks .entry)) (length (now (marks .entry))) .marks) × Lists (runIn k (now (keys .entry)) (now (marks .entry)) (length (now (marks .entry)))) (sorted (entries 0 (runIn k (now (keys .entry)) (now (marks .entry)) (length (now (marks .entry))) .labels))) (now (labels .entry)) (now (labels .exit)) (now (starts .entry)) (now (starts .exit)) (now (lengths .entry)) (now (lengths .exit)) ⌝ }
+{
+    let count = write::write_labels(k, keys, marks, labels, starts, lengths);
+    digest::settle(marks);
+    normal::normalize_unitigs(labels, starts, lengths, count)
+}
+
+// A fit table of as many vertices as there are marks. All walks are followed before the first byte is written.
+fn contract_fit(
+    k: usize,
+    cutoff: u32,
+    keys: &[u64],
+    counts: &[u32],
+    labels: &mut [u8],
+    starts: &mut [u32],
+    lengths: &mut [u32],
+    marks: &mut [u8],
+) -> ContractAnswer
+    requires { ⌜ Table k (now keys) (now counts) (now marks) ⌝ }
+    ensures { λ r. ⌜ Contracts r (now (labels .exit)) (now (starts .exit)) (now (lengths .exit)) (now (marks .exit)) (finishIn k cutoff (length (now (marks .entry))) (now (keys .entry)) (now (counts .entry)) (now (labels .entry)) (now (starts .entry)) (now (lengths .entry)) (now (marks .entry))) ⌝ }
+{
+    digest::digest(counts, cutoff, marks);
+    let all = survey::survey(k, keys, marks);
+    if all.missing {
+        digest::clear(marks);
+        return ContractAnswer::MissingVertex;
+    }
+    if lacks_room(
+        labels.len(),
+        starts.len(),
+        lengths.len(),
+        all.bases,
+        all.labels,
+    ) {
+        digest::clear(marks);
+        return ContractAnswer::NoRoom;
+    }
+    digest::unvisit(marks);
+    let count = write_list(k, keys, marks, labels, starts, lengths);
+    ContractAnswer::Contracted {
+        labels: count,
+        bases: all.bases,
+    }
+}
+
+// A fit table of n vertices, for which there are marks.
+fn contract_first(
+    k: usize,
+    cutoff: u32,
+    n: usize,
+    keys: &[u64],
+    counts: &[u32],
+    labels: &mut [u8],
+    starts: &mut [u32],
+    lengths: &mut [u32],
+    marks: &mut [u8],
+) -> ContractAnswer
+    requires { ⌜ (n ≤ length (now marks)) × Table k (now keys) (now counts) (take n (now marks)) ⌝ }
+    ensures { λ r. ⌜ Contracts r (now (labels .exit)) (now (starts .exit)) (now (lengths .exit)) (now (marks .exit)) (finishIn k cutoff n (now (keys .entry)) (now (counts .entry)) (now (labels .entry)) (now (starts .entry)) (now (lengths .entry)) (now (marks .entry))) ⌝ }
+{
+    contract_fit(
+        k,
+        cutoff,
+        keys,
+        counts,
+        labels,
+        starts,
+        lengths,
+        &mut marks[..n],
+    )
+}
+
+// The unitigs of a table at a cutoff: the refusals 1, 5, 7, 8, 9.
+pub fn contract(
+    k: usize,
+    cutoff: u32,
+    n: usize,
+    keys: &[u64],
+    counts: &[u32],
+    labels: &mut [u8],
+    starts: &mut [u32],
+    lengths: &mut [u32],
+    marks: &mut [u8],
+) -> ContractAnswer
+    ensures { λ r. ⌜ Contracts r (now (labels .exit)) (now (starts .exit)) (now (lengths .exit)) (now (marks .exit)) (contracted fourBits k cutoff n (now (keys .entry)) (now (counts .entry)) (now (labels .entry)) (now (starts .entry)) (now (lengths .entry)) (now (marks .entry))) ⌝ }
+{
+    match table::fit(k, n, keys, counts) {
+        FitAnswer::UnsupportedK(k) => ContractAnswer::UnsupportedK(k),
+        FitAnswer::Unfit => ContractAnswer::Unfit,
+        FitAnswer::Fit => {
+            if marks.len() < n {
+                return ContractAnswer::FewMarks;
+            }
+            contract_first(k, cutoff, n, keys, counts, labels, starts, lengths, marks)
+        }
+    }
+}
