@@ -6,3 +6,4 @@ pub mod Labels
 pub mod Contraction
 pub mod Fasta
 pub mod Examples
+pub mod Lent

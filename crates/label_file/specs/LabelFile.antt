@@ -41,12 +41,21 @@ labelsFrom K cutoff (suc most) i (b ∷ bs) =
     let rest = with (take (two s 2) (drop 4 s)) (labelsFrom K cutoff most (suc i) (drop (4 + two s 2) s)) in
     cond (labelled s) rest (damaged i)
 
+-- K and the cutoff, as the first record says.
+abbrev pub kIn : List ℕ → ℕ
+kIn s = getD s 2 0
+
+abbrev pub cutoffIn : List ℕ → ℕ
+cutoffIn s = two s 3 + 65536 * two s 5
+
 -- A file over 16,384 bytes, an empty one, and one that does not begin with `KC`, is damaged at record 0.
 unfoldable pub fileOf : List ℕ → LabelFile
-fileOf s =
-    cond (leb (length s) 16384 && headed s)
-    (labelsFrom (getD s 2 0) (two s 3 + 65536 * two s 5) (length s) 1 (drop 7 s))
-    (damaged 0)
+fileOf s = cond (leb (length s) 16384 && headed s) (labelsFrom (kIn s) (cutoffIn s) (length s) 1 (drop 7 s)) (damaged 0)
+
+-- The labels that a file holds; none where it is damaged.
+abbrev pub labelsOf : LabelFile → List (List ℕ)
+labelsOf (damaged i) = []
+labelsOf (holds K cutoff labels) = labels
 
 -- Opens this file's definitions to a proof that computes.
 unfoldable pub openLabelFile : Unit {0}

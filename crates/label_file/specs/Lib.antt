@@ -1,3 +1,4 @@
 pub mod LabelFile
 pub mod Output
+pub mod Says
 pub mod Examples

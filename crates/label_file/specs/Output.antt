@@ -1,11 +1,11 @@
--- What the program `unitigs` prints for the bytes that it reads. Assumes nothing.
+-- What the program `unitigs` does with the bytes that it reads: what it prints, and what it leaves in its buffers. Assumes nothing.
 use Prim.Native.Nat.{ℕ, zero, suc, _+_, _/_, _%_}
 use mathlib.Core.Bool.{cond}
 use mathlib.Core.List.{List, [], _∷_, _++_}
 use lib.Dec.{ltb}
 use lib.ListN.{take, replicate}
 use Rattle.dna.specs.Text.{bytes}
-use Rattle.dna.specs.Answer.{Answer, gives, refuses, Filled}
+use Rattle.dna.specs.Answer.{Answer, gives, refuses, Filled, fill}
 use Rattle.kmer.specs.Kmer.{okK}
 use Rattle.state.specs.Counted.{fourBits}
 use Rattle.graph.specs.Sightings.{sameCanonical}
@@ -22,7 +22,7 @@ decimal (suc most) x s =
     let more = decimal most (x / 10) d in
     cond (ltb x 10) d more
 
--- A refusal prints only `R n p` and a newline: n the refusal, p the record, or the number of records after the last.
+-- The line of a refusal, `R n p` and a newline: n the refusal, p the record, or the number of records after the last.
 abbrev pub refusal : ℕ → ℕ → List ℕ
 refusal n p = bytes "R " ++ decimal 20 n (bytes " " ++ decimal 20 p (bytes "\n"))
 
@@ -36,7 +36,78 @@ pub record Buffers : Type 0 where
   pub marks : List ℕ
   pub text : List ℕ
 
--- Its own: 1,024 vertices, 1,024 index entries, 8,192 label bytes and 8,192 FASTA bytes, filled with zeros.
+abbrev pub lent : List ℕ → List ℕ → List ℕ → List ℕ → List ℕ → List ℕ → List ℕ → Buffers
+lent keys counts labels starts lengths marks text = record {
+  keys = keys;
+  counts = counts;
+  labels = labels;
+  starts = starts;
+  lengths = lengths;
+  marks = marks;
+  text = text;
+}
+
+-- How many bytes of the text are to be printed, and the buffers afterwards. 11 where not even a refusal's line fits the text.
+pub record Left : Type 0 where
+  pub answer : Answer ℕ
+  pub buffers : Buffers
+
+abbrev pub withTable : Buffers → List ℕ → List ℕ → Buffers
+withTable b keys counts = lent keys counts (b .labels) (b .starts) (b .lengths) (b .marks) (b .text)
+
+abbrev pub withList : Buffers → Contracted → Buffers
+withList b c = lent (b .keys) (b .counts) (c .labels) (c .starts) (c .lengths) (c .marks) (b .text)
+
+-- A text in the buffers' own.
+abbrev pub withText : Buffers → Filled → Left
+withText b f = record { answer = f .answer; buffers = lent (b .keys) (b .counts) (b .labels) (b .starts) (b .lengths) (b .marks) (f .slice) }
+
+-- A refusal prints its line only.
+unfoldable pub refused : ℕ → ℕ → Buffers → Left
+refused r p b = withText b (fill 11 (refusal r p) (b .text))
+
+-- Success prints the FASTA only; p records were read.
+unfoldable pub printed : ℕ → List ℕ → Filled → Filled
+printed p text f = elim (f .answer) [ gives n ↦ f | refuses r vs ↦ fill 11 (refusal r p) text ]
+
+-- The list of a contracted table.
+unfoldable pub listed : ℕ → Buffers → Contracted → Left
+listed p b c =
+    let after = withList b c in
+    let text : Totals → Filled = λ t. fasta (c .labels) (c .starts) (c .lengths) (t .labels) (b .text) in
+    elim (c .answer) [ gives t ↦ withText after (printed p (b .text) (text t)) | refuses r vs ↦ refused r p after ]
+
+-- Labels added: the number stored afterwards or the refusal that ended it, the record that is next or was refused, and the table's slices.
+pub record Taken : Type 0 where
+  pub answer : Answer ℕ
+  pub next : ℕ
+  pub keys : List ℕ
+  pub counts : List ℕ
+
+-- The labels from record p on added in order to n vertices.
+unfoldable pub takeFrom : ℕ → ℕ → List (List ℕ) → ℕ → List ℕ → List ℕ → Taken
+takeFrom K p [] n keys counts = record { answer = gives n; next = p; keys = keys; counts = counts }
+takeFrom K p (label ∷ labels) n keys counts =
+    let a = addLabel fourBits sameCanonical K n keys counts label in
+    let on : Edges → Taken = λ e. takeFrom K (suc p) labels (e .stored) (a .keys) (a .counts) in
+    elim (a .answer) [ gives e ↦ on e | refuses r vs ↦ record { answer = refuses r vs; next = p; keys = a .keys; counts = a .counts } ]
+
+-- The labels in order, then contraction and FASTA.
+unfoldable pub listAll : ℕ → ℕ → List (List ℕ) → Buffers → Left
+listAll K cutoff labels b =
+    let t = takeFrom K 1 labels 0 (b .keys) (b .counts) in
+    let c : ℕ → Contracted = λ n. contract fourBits K cutoff n (t .keys) (t .counts) (b .labels) (b .starts) (b .lengths) (b .marks) in
+    let after = withTable b (t .keys) (t .counts) in
+    elim (t .answer) [ gives n ↦ listed (t .next) after (c n) | refuses r vs ↦ refused r (t .next) after ]
+
+-- The form is checked first, then K, labels in order, contraction, FASTA.
+unfoldable pub output : Buffers → List ℕ → Left
+output b file = elim (fileOf file) [
+  | damaged i ↦ refused 13 i b
+  | holds K cutoff labels ↦ cond (okK K) (listAll K cutoff labels b) (refused 1 0 b)
+]
+
+-- The program's own buffers: 1,024 vertices, 1,024 index entries, 8,192 label bytes and 8,192 FASTA bytes, filled with zeros.
 abbrev pub zeros : Buffers
 zeros = record {
   keys = replicate 2048 0;
@@ -48,39 +119,15 @@ zeros = record {
   text = replicate 8192 0;
 }
 
--- Success prints the FASTA only.
-unfoldable pub printed : ℕ → Filled → List ℕ
-printed p f = elim (f .answer) [ gives n ↦ take n (f .slice) | refuses r vs ↦ refusal r p ]
+-- What is printed.
+abbrev pub printing : Left → List ℕ
+printing l = elim (l .answer) [ gives n ↦ take n (l .buffers .text) | refuses r vs ↦ [] ]
 
-module _ (K cutoff : ℕ) (b : Buffers) where
-  -- The list of a contracted table, after p records.
-  unfoldable pub listed : ℕ → Contracted → List ℕ
-  listed p c = elim (c .answer) [
-    | gives t ↦ printed p (fasta (c .labels) (c .starts) (c .lengths) (t .labels) (b .text))
-    | refuses r vs ↦ refusal r p
-  ]
-
-  -- The labels from record p on added to n vertices, then contraction and FASTA.
-  unfoldable pub addFrom : ℕ → List (List ℕ) → ℕ → List ℕ → List ℕ → List ℕ
-  addFrom p [] n keys counts =
-      listed p (contract fourBits K cutoff n keys counts (b .labels) (b .starts) (b .lengths) (b .marks))
-  addFrom p (label ∷ labels) n keys counts =
-      let a = addLabel fourBits sameCanonical K n keys counts label in
-      let next : Edges → List ℕ = λ e. addFrom (suc p) labels (e .stored) (a .keys) (a .counts) in
-      elim (a .answer) [ gives e ↦ next e | refuses r vs ↦ refusal r p ]
-
--- The form is checked first, then K, labels in order, contraction, FASTA.
-unfoldable pub output : Buffers → List ℕ → List ℕ
-output b file = elim (fileOf file) [
-  | damaged i ↦ refusal 13 i
-  | holds K cutoff labels ↦ cond (okK K) (addFrom K cutoff b 1 labels 0 (b .keys) (b .counts)) (refusal 1 0)
-]
-
--- The program.
+-- The program: what it prints for a file.
 abbrev pub unitigs : List ℕ → List ℕ
-unitigs file = output zeros file
+unitigs file = printing (output zeros file)
 
 -- Opens this file's definitions to a proof that computes.
 unfoldable pub openOutput : Unit {0}
-unfolding decimal printed listed addFrom output
+unfolding decimal refused printed listed takeFrom listAll output
 openOutput = tt

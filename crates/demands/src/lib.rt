@@ -1,0 +1,1 @@
+// The customer's demands as facts about the calls. Theorems only: no code stands here.

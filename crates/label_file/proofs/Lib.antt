@@ -1,0 +1,9 @@
+pub mod Marks
+pub mod Remaining
+pub mod Digits
+pub mod Lines
+pub mod Unread
+pub mod TakingLabels
+pub mod Listing
+pub mod Whole
+pub mod Says

@@ -1,0 +1,60 @@
+-- The line of a refusal, and a line put into a text. Assumes nothing.
+use mathlib.Core.Path.{_≡_, refl, subst, _∙_}
+use mathlib.Core.List.{List, [], _∷_}
+use Prim.Native.Nat.{ℕ, suc, _-_, _≤_, _<_}
+use native.Mathlib.Omega.{arith}
+use borrow.Author.Tests.{lt-ltb, le-ltb}
+use borrow.Rule.Slice.PartAt.{part-to-end}
+use lib.ListN.{length, take, drop, set, length-set, drop-of-length-le}
+use Rattle.dna.specs.Text.{over}
+use Rattle.dna.specs.Answer.{fill}
+use Rattle.label_file.specs.Output.{decimal, refusal}
+use Rattle.label_file.specs.Says.{Fills, Prefixes}
+use Rattle.label_file.specs.declared.ListAnswer.{ListAnswer}
+use Rattle.label_file.specs.declared.ListAnswer.the-variants.{Printed, NoRoom}
+use Rattle.label_file.proofs.Digits.{drop-set}
+
+-- `second` and `third` are the line with the record's number, from place i on, and with the refusal's number, from place j on.
+module _ (line second third : List ℕ) (number at i j : ℕ) (l : length line ≡ 64)
+    (p : Prefixes at (set line 63 10) 63 i second) (kept : length second ≡ length (set line 63 10))
+    (q : Prefixes number (set second (i - 1) 32) (i - 1) j third) (kept′ : length third ≡ length (set second (i - 1) 32)) where
+  length-second : length second ≡ 64
+  length-second = kept ∙ simp length-set l
+
+  pub length-third : length third ≡ 64
+  length-third = kept′ ∙ simp length-set length-second
+
+  -- No place is left of the line's beginning or right of its end.
+  pub places : (22 ≤ j) × (j ≤ i - 1) × (43 ≤ i) × (i ≤ 63)
+  places = (omega (arith, p .most, q .most), q .lower, omega (arith, p .most), p .lower)
+
+  pub line-made : drop (j - 2) (set (set third (j - 1) 32) (j - 2) 82) ≡ refusal number at
+  line-made =
+      let b = places in
+      let l₂ = length-second in
+      let l₃ = length-third in
+      let ei : suc (i - 1) ≡ i = omega arith in
+      let ej : suc (j - 1) ≡ j = omega arith in
+      let ej₂ : suc (j - 2) ≡ j - 1 = omega arith in
+      let newline : drop 63 (set line 63 10) ≡ 10 ∷ [] =
+      drop-set line 63 10 (omega arith) ∙ rw (drop-of-length-le line {i = 64} (omega arith)) in
+      let tail : drop i second ≡ decimal 20 at (10 ∷ []) = p .text ∙ rw newline in
+      let middle : drop (i - 1) (set second (i - 1) 32) ≡ 32 ∷ decimal 20 at (10 ∷ []) =
+      drop-set second (i - 1) 32 (omega arith) ∙ rw (ei, tail) in
+      let behind : drop (j - 1) (set third (j - 1) 32) ≡ 32 ∷ decimal 20 number (32 ∷ decimal 20 at (10 ∷ [])) =
+      drop-set third (j - 1) 32 (omega arith) ∙ rw (ej, q .text, middle) in
+      drop-set (set third (j - 1) 32) (j - 2) 82 (simp length-set (omega arith)) ∙ rw (ej₂, behind)
+
+module _ (line text : List ℕ) where
+  pub fills-none : length text < length line → Fills NoRoom text (fill 11 line text)
+  fills-none h = rw (lt-ltb (length text) (length line) h) (record { answer = refl; text-after = refl })
+
+  pub fills-all : (after : List ℕ) → length line ≤ length text → after ≡ over line text
+      → Fills (Printed (length line)) after (fill 11 line text)
+  fills-all after h e = rw (le-ltb (length text) (length line) h) (record { answer = refl; text-after = e })
+
+-- The end of the line of 64 bytes, put into the text.
+pub fills-end : (line text after : List ℕ) (r : ListAnswer) (number at start : ℕ) → length line ≡ 64 → drop start line ≡ refusal number at
+    → Fills r after (fill 11 (take (64 - start) (drop start line)) text) → Fills r after (fill 11 (refusal number at) text)
+fills-end line text after r number at start l e f =
+    subst (λ (part : List ℕ). Fills r after (fill 11 part text)) (rw l at (part-to-end line start) ∙ e) f

@@ -1,0 +1,59 @@
+-- What the enums of this crate say, and what its parts do. Assumes nothing.
+use Prim.Native.Nat.{ℕ, _+_, _≤_}
+use mathlib.Core.Path.{_≡_}
+use mathlib.Core.List.{List, [], _∷_}
+use lib.ListN.{length, drop}
+use Rattle.dna.specs.Answer.{Answer, gives, refuses, Filled}
+use Rattle.label_file.specs.LabelFile.{LabelFile, damaged, holds, kIn, cutoffIn, fileOf, labelsOf}
+use Rattle.label_file.specs.Output.{Buffers, Left, Taken, decimal}
+use Rattle.label_file.specs.declared.ListAnswer.{ListAnswer}
+use Rattle.label_file.specs.declared.ListAnswer.the-variants as list
+use Rattle.label_file.specs.declared.Checked.{Checked}
+use Rattle.label_file.specs.declared.Checked.the-variants as checked
+use Rattle.label_file.specs.declared.Taking.{Taking}
+use Rattle.label_file.specs.declared.Taking.the-variants as taking
+
+-- How many bytes of the text are to be printed.
+abbrev pub listAnswer : ListAnswer → Answer ℕ
+listAnswer (list.Printed n) = gives n
+listAnswer list.NoRoom = refuses 11 []
+
+-- A call that fills the text: its answer, and the text at exit.
+pub record Fills (r : ListAnswer) (text : List ℕ) (f : Filled) : Type 0 where
+  pub answer : listAnswer r ≡ f .answer
+  pub text-after : text ≡ f .slice
+
+-- The whole call: its answer, and the buffers at exit.
+pub record Lists (r : ListAnswer) (b : Buffers) (l : Left) : Type 0 where
+  pub answer : listAnswer r ≡ l .answer
+  pub after : b ≡ l .buffers
+
+-- Each record of a file is as it should be.
+abbrev pub Sound : List ℕ → Type 0
+Sound file = fileOf file ≡ holds (kIn file) (cutoffIn file) (labelsOf (fileOf file))
+
+abbrev pub formSays : Checked → List ℕ → Type 0
+formSays (checked.Damaged i) file = fileOf file ≡ damaged i
+formSays checked.Sound file = Sound file
+
+-- The values beside a refusal.
+abbrev pub besides : {A : Type 0} → Answer A → List ℕ
+besides (gives a) = []
+besides (refuses r vs) = vs
+
+-- The number stored and the number of records, or a refusal's number and the record that was refused.
+abbrev pub takingSays : Taking → Taken → Type 0
+takingSays (taking.Stored n records) t = (t .answer ≡ gives n) × (t .next ≡ records)
+takingSays (taking.Refused number at) t = (t .answer ≡ refuses number (besides (t .answer))) × (t .next ≡ at)
+
+-- Labels added: what is said of them, and the table's slices at exit.
+pub record Takes (r : Taking) (keys counts : List ℕ) (t : Taken) : Type 0 where
+  pub says : takingSays r t
+  pub keys-after : keys ≡ t .keys
+  pub counts-after : counts ≡ t .counts
+
+-- A number's digits put in front of what stands from a place on; r is the place of the first.
+pub record Prefixes (x : ℕ) (s : List ℕ) (at r : ℕ) (s′ : List ℕ) : Type 0 where
+  pub text : drop r s′ ≡ decimal 20 x (drop at s)
+  pub lower : r ≤ at
+  pub most : at ≤ r + 20

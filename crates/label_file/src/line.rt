@@ -1,0 +1,71 @@
+// The line that a refusal prints.
+ghost use mathlib.Core.Path.{_≡_};
+ghost use Prim.Native.Nat.{_+_, _^_, _≤_, _<_};
+ghost use lib.ListN.{length, drop};
+ghost use Rattle.dna.specs.Text.{over};
+ghost use Rattle.dna.specs.Answer.{fill};
+ghost use Rattle.label_file.specs.Output.{refusal};
+ghost use Rattle.label_file.specs.Says.{Fills, Prefixes};
+use super::ListAnswer;
+
+// A number in decimal in front of a place; the place of its first digit.
+fn put_decimal(number: usize, out: &mut [u8], at: usize) -> usize
+    requires { ⌜ (20 ≤ at) × (at ≤ length (now out)) ⌝ }
+    ensures { λ r. ⌜ Prefixes number (now (out .entry)) at r (now (out .exit)) ⌝ }
+{
+    let mut x = number;
+    let mut i = at - 1;
+    out[i] = 48 + (x % 10) as u8;
+    while 10 <= x {
+        x /= 10;
+        i -= 1;
+        out[i] = 48 + (x % 10) as u8;
+    }
+    i
+}
+
+// A text, from the first cell on.
+fn copy(text: &[u8], out: &mut [u8])
+    requires { ⌜ length (now text) ≤ length (now out) ⌝ }
+    ensures { λ _. ⌜ now (out .exit) ≡ over (now (text .entry)) (now (out .entry)) ⌝ }
+{
+    let mut i = 0;
+    while i < text.len() {
+        out[i] = text[i];
+        i += 1;
+    }
+}
+
+// A line in the text, where it fits.
+fn put_line(line: &[u8], text: &mut [u8]) -> ListAnswer
+    ensures { λ r. ⌜ Fills r (now (text .exit)) (fill 11 (now (line .entry)) (now (text .entry))) ⌝ }
+{
+    if text.len() < line.len() {
+        return ListAnswer::NoRoom;
+    }
+    copy(line, text);
+    ListAnswer::Printed(line.len())
+}
+
+// `R`, the refusal's number, the record's, and a newline, at the end of a line of 64 bytes; the place of the first.
+fn make_line(number: usize, at: usize, line: &mut [u8]) -> usize
+    requires { ⌜ length (now line) ≡ 64 ⌝ }
+    ensures { λ r. ⌜ (drop r (now (line .exit)) ≡ refusal number at) × (r ≤ 64) ⌝ }
+{
+    line[63] = b'\n';
+    let i = put_decimal(at, line, 63);
+    line[i - 1] = b' ';
+    let j = put_decimal(number, line, i - 1);
+    line[j - 1] = b' ';
+    line[j - 2] = b'R';
+    j - 2
+}
+
+// A refusal's number and the record that it is about, in the text.
+pub(crate) fn refuse(number: usize, at: usize, text: &mut [u8]) -> ListAnswer
+    ensures { λ r. ⌜ Fills r (now (text .exit)) (fill 11 (refusal number at) (now (text .entry))) ⌝ }
+{
+    let mut line = [0u8; 64];
+    let start = make_line(number, at, &mut line);
+    put_line(&line[start..], text)
+}

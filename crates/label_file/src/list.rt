@@ -1,0 +1,171 @@
+// A label file's list.
+ghost use mathlib.Core.Path.{_≡_};
+ghost use mathlib.Core.Bool.{true};
+ghost use Prim.Native.Nat.{_≤_};
+ghost use lib.ListN.{length};
+ghost use Rattle.kmer.specs.Kmer.{okK};
+ghost use Rattle.state.specs.Counted.{fourBits};
+ghost use Rattle.graph.specs.Contraction.{contract};
+ghost use Rattle.graph.specs.Fasta.{fasta};
+ghost use Rattle.label_file.specs.LabelFile.{kIn, cutoffIn, fileOf, labelsOf};
+ghost use Rattle.label_file.specs.Output.{lent, printed, listed, takeFrom, listAll, output};
+ghost use Rattle.label_file.specs.Says.{Fills, Lists, Sound, Takes};
+use super::Checked;
+use super::ListAnswer;
+use super::Taking;
+use super::form;
+use super::line;
+use adding::AddAnswer;
+use contraction::ContractAnswer;
+use fasta::FastaAnswer;
+
+// The labels added in order, until one is refused.
+fn take_labels(file: &[u8], k: usize, keys: &mut [u64], counts: &mut [u32]) -> Taking
+    requires { ⌜ Sound (now file) ⌝ }
+    ensures { λ r. ⌜ Takes r (now (keys .exit)) (now (counts .exit)) (takeFrom k 1 (labelsOf (fileOf (now (file .entry)))) 0 (now (keys .entry)) (now (counts .entry))) ⌝ }
+{
+    let mut vertices = 0;
+    let mut record = 1;
+    let mut at = 7;
+    while at < file.len() {
+        let start = at + 4;
+        let end = start + form::two_bytes(file, at + 2);
+        match adding::add_label(k, vertices, keys, counts, &file[start..end]) {
+            AddAnswer::Added { edges: _, stored } => {
+                vertices = stored;
+                record += 1;
+                at = end;
+            }
+            AddAnswer::UnsupportedK(_) => return Taking::Refused { number: 1, record },
+            AddAnswer::InvalidBase { .. } => return Taking::Refused { number: 3, record },
+            AddAnswer::TooLong(_) => return Taking::Refused { number: 4, record },
+            AddAnswer::Unfit => return Taking::Refused { number: 5, record },
+            AddAnswer::Full => return Taking::Refused { number: 6, record },
+        }
+    }
+    Taking::Stored {
+        vertices,
+        records: record,
+    }
+}
+
+// The list as FASTA.
+fn print_list(
+    labels: &[u8],
+    starts: &[u32],
+    lengths: &[u32],
+    count: usize,
+    records: usize,
+    text: &mut [u8],
+) -> ListAnswer
+    ensures { λ r. ⌜ Fills r (now (text .exit)) (printed records (now (text .entry)) (fasta (now (labels .entry)) (now (starts .entry)) (now (lengths .entry)) count (now (text .entry)))) ⌝ }
+{
+    match fasta::write_fasta(labels, starts, lengths, count, text) {
+        FastaAnswer::Written(n) => ListAnswer::Printed(n),
+        FastaAnswer::NoRoom => line::refuse(11, records, text),
+        FastaAnswer::OutOfLabels => line::refuse(12, records, text),
+    }
+}
+
+// A table contracted and listed, after so many records.
+fn list_table(
+    k: usize,
+    cutoff: u32,
+    n: usize,
+    records: usize,
+    keys: &[u64],
+    counts: &[u32],
+    labels: &mut [u8],
+    starts: &mut [u32],
+    lengths: &mut [u32],
+    marks: &mut [u8],
+    text: &mut [u8],
+) -> ListAnswer
+    ensures { λ r. ⌜ Lists r (lent (now (keys .entry)) (now (counts .entry)) (now (labels .exit)) (now (starts .exit)) (now (lengths .exit)) (now (marks .exit)) (now (text .exit))) (listed records (lent (now (keys .entry)) (now (counts .entry)) (now (labels .entry)) (now (starts .entry)) (now (lengths .entry)) (now (marks .entry)) (now (text .entry))) (contract fourBits k cutoff n (now (keys .entry)) (now (counts .entry)) (now (labels .entry)) (now (starts .entry)) (now (lengths .entry)) (now (marks .entry)))) ⌝ }
+{
+    match contraction::contract(k, cutoff, n, keys, counts, labels, starts, lengths, marks) {
+        ContractAnswer::Contracted {
+            labels: count,
+            bases: _,
+        } => print_list(labels, starts, lengths, count, records, text),
+        ContractAnswer::UnsupportedK(_) => line::refuse(1, records, text),
+        ContractAnswer::Unfit => line::refuse(5, records, text),
+        ContractAnswer::FewMarks => line::refuse(7, records, text),
+        ContractAnswer::MissingVertex => line::refuse(8, records, text),
+        ContractAnswer::NoRoom => line::refuse(9, records, text),
+    }
+}
+
+// The labels of a sound file added, contracted and listed.
+fn list_labels(
+    file: &[u8],
+    k: usize,
+    cutoff: u32,
+    keys: &mut [u64],
+    counts: &mut [u32],
+    labels: &mut [u8],
+    starts: &mut [u32],
+    lengths: &mut [u32],
+    marks: &mut [u8],
+    text: &mut [u8],
+) -> ListAnswer
+    requires { ⌜ Sound (now file) ⌝ }
+    ensures { λ r. ⌜ Lists r (lent (now (keys .exit)) (now (counts .exit)) (now (labels .exit)) (now (starts .exit)) (now (lengths .exit)) (now (marks .exit)) (now (text .exit))) (listAll k cutoff (labelsOf (fileOf (now (file .entry)))) (lent (now (keys .entry)) (now (counts .entry)) (now (labels .entry)) (now (starts .entry)) (now (lengths .entry)) (now (marks .entry)) (now (text .entry)))) ⌝ }
+{
+    match take_labels(file, k, keys, counts) {
+        Taking::Stored { vertices, records } => list_table(
+            k,
+            cutoff,
+            vertices,
+            records,
+            keys,
+            counts,
+            labels,
+            starts,
+            lengths,
+            marks,
+            text,
+        ),
+        Taking::Refused { number, record } => line::refuse(number, record, text),
+    }
+}
+
+// What the program prints for a file, in the text: the FASTA of its unitigs, or the line of a refusal.
+pub fn list_unitigs(
+    file: &[u8],
+    keys: &mut [u64],
+    counts: &mut [u32],
+    labels: &mut [u8],
+    starts: &mut [u32],
+    lengths: &mut [u32],
+    marks: &mut [u8],
+    text: &mut [u8],
+) -> ListAnswer
+    ensures { λ r. ⌜ Lists r (lent (now (keys .exit)) (now (counts .exit)) (now (labels .exit)) (now (starts .exit)) (now (lengths .exit)) (now (marks .exit)) (now (text .exit))) (output (lent (now (keys .entry)) (now (counts .entry)) (now (labels .entry)) (now (starts .entry)) (now (lengths .entry)) (now (marks .entry)) (now (text .entry))) (now (file .entry))) ⌝ }
+{
+    match form::form(file) {
+        Checked::Damaged(record) => line::refuse(13, record, text),
+        Checked::Sound => {
+            let k = file[2] as usize;
+            if k < 1 {
+                return line::refuse(1, 0, text);
+            }
+            if 63 < k {
+                return line::refuse(1, 0, text);
+            }
+            let cutoff = (form::two_bytes(file, 3) + 65536 * form::two_bytes(file, 5)) as u32;
+            list_labels(
+                file,
+                k,
+                cutoff,
+                keys,
+                counts,
+                labels,
+                starts,
+                lengths,
+                marks,
+                text,
+            )
+        }
+    }
+}
