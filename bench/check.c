@@ -1,0 +1,96 @@
+/* Calls the C interface on examples of document 01 and prints "check: ok", or what differs.
+ * cc -Iinclude bench/check.c OBJECT -o check, where OBJECT has the functions of crate capi. */
+#include "lashgranary.h"
+#include <stdio.h>
+#include <string.h>
+
+#define LEN(a) (sizeof(a) / sizeof((a)[0]))
+#define UNTOUCHED 77
+
+static int differences = 0;
+
+static void same(const char *what, uint64_t got, uint64_t wanted) {
+    if (got != wanted) {
+        printf("check: %s is %llu, not %llu\n", what, (unsigned long long)got, (unsigned long long)wanted);
+        differences++;
+    }
+}
+
+static void same_bytes(const char *what, const void *got, const void *wanted, size_t n) {
+    if (memcmp(got, wanted, n) != 0) {
+        printf("check: %s differs\n", what);
+        differences++;
+    }
+}
+
+int main(void) {
+    uint64_t keys[32], keys_before[32], figures[3];
+    uint32_t counts[16], counts_before[16], starts[16], lengths[16];
+    uint8_t labels[48], marks[16], out[64];
+    const uint8_t acccc[] = {'A', 'C', 'C', 'C', 'C'}, accn[] = {'A', 'C', 'C', 'N'};
+    memset(keys, 0, sizeof keys);
+    memset(counts, 0, sizeof counts);
+    memset(marks, UNTOUCHED, sizeof marks);
+    memset(out, UNTOUCHED, sizeof out);
+    for (size_t i = 0; i < LEN(figures); i++) figures[i] = UNTOUCHED;
+
+    /* P1: 2 edges; ACC 00100000, CCC 00100001; output ACCC. */
+    same("adding ACCCC", lash_add_label(3, 0, keys, LEN(keys), counts, LEN(counts), acccc, LEN(acccc), figures, LEN(figures)), 0);
+    same("its edges", figures[0], 2);
+    same("the number stored", figures[1], 2);
+    same("the cell past the figures", figures[2], UNTOUCHED);
+    same("the first key", keys[0], 5);
+    same("the second key", keys[2], 21);
+    same("the first count", counts[0], 0x00100000);
+    same("the second count", counts[1], 0x00100001);
+    size_t n = figures[1];
+    same("contracting",
+         lash_contract(3, 1, n, keys, LEN(keys), counts, LEN(counts), labels, LEN(labels), starts, LEN(starts), lengths, LEN(lengths),
+                       marks, LEN(marks), figures, LEN(figures)), 0);
+    same("the number of labels", figures[0], 1);
+    same("their bases", figures[1], 4);
+    same("the first mark", marks[0], 1);
+    same("the second mark", marks[1], 1);
+    same("the mark past them", marks[2], UNTOUCHED);
+    same("FASTA",
+         lash_write_fasta(labels, LEN(labels), starts, LEN(starts), lengths, LEN(lengths), figures[0], out, LEN(out), figures,
+                          LEN(figures)), 0);
+    same("its size", figures[0], 8);
+    same_bytes("its text", out, ">0\nACCC\n", 8);
+    same("the byte past it", out[8], UNTOUCHED);
+
+    /* P11 and P8: refusals, which leave the table as it is. */
+    memcpy(keys_before, keys, sizeof keys);
+    memcpy(counts_before, counts, sizeof counts);
+    same("adding at K = 64", lash_add_label(64, n, keys, LEN(keys), counts, LEN(counts), acccc, LEN(acccc), figures, LEN(figures)), 1);
+    same("its K", figures[0], 64);
+    same("adding ACCN", lash_add_label(3, n, keys, LEN(keys), counts, LEN(counts), accn, LEN(accn), figures, LEN(figures)), 3);
+    same("its place", figures[0], 3);
+    same("its byte", figures[1], 78);
+    same_bytes("the keys after refusals", keys, keys_before, sizeof keys);
+    same_bytes("the counts after refusals", counts, counts_before, sizeof counts);
+
+    /* Other refusals, and figures without room. */
+    same("contracting at K = 64",
+         lash_contract(64, 1, n, keys, LEN(keys), counts, LEN(counts), labels, LEN(labels), starts, LEN(starts), lengths, LEN(lengths),
+                       marks, LEN(marks), figures, LEN(figures)), 1);
+    same("its K", figures[0], 64);
+    same("contracting with one mark",
+         lash_contract(3, 1, n, keys, LEN(keys), counts, LEN(counts), labels, LEN(labels), starts, LEN(starts), lengths, LEN(lengths),
+                       marks, 1, figures, LEN(figures)), 7);
+    same("contracting without room",
+         lash_contract(3, 1, n, keys, LEN(keys), counts, LEN(counts), labels, 3, starts, LEN(starts), lengths, LEN(lengths),
+                       marks, LEN(marks), figures, LEN(figures)), 9);
+    same("the first mark then", marks[0], 0);
+    same("FASTA without room",
+         lash_write_fasta(labels, LEN(labels), starts, LEN(starts), lengths, LEN(lengths), 1, out, 7, figures, LEN(figures)), 11);
+    same("FASTA past the index",
+         lash_write_fasta(labels, LEN(labels), starts, LEN(starts), lengths, LEN(lengths), 17, out, LEN(out), figures, LEN(figures)), 12);
+    figures[0] = figures[1] = UNTOUCHED;
+    same("adding ACCN", lash_add_label(3, n, keys, LEN(keys), counts, LEN(counts), accn, LEN(accn), figures, 1), 3);
+    same("its place in one cell", figures[0], 3);
+    same("the cell past it", figures[1], UNTOUCHED);
+
+    if (differences == 0) printf("check: ok\n");
+    return differences != 0;
+}

@@ -1,0 +1,38 @@
+-- The contract of each call allows one number, one content of the figures and one of each slice. Assumes nothing.
+use mathlib.Core.Path.{_≡_, sym, _∙_}
+use mathlib.Core.List.{List}
+use Prim.Native.Nat.{ℕ}
+use Rattle.dna.specs.Answer.{Filled}
+use Rattle.graph.specs.Adding.{Added}
+use Rattle.graph.specs.Contraction.{Contracted}
+use Rattle.capi.specs.Says.{AddsLabel, ContractsTable, WritesFasta}
+
+-- Over the number and the figures of either, and the figures before.
+module _ {r s : ℕ} {figures₀ figures figures′ : List ℕ} where
+  pub adds-label-one : {keys keys′ counts counts′ : List ℕ} {a : Added}
+      → AddsLabel r keys counts figures₀ figures a → AddsLabel s keys′ counts′ figures₀ figures′ a
+      → (r ≡ s) × (figures ≡ figures′) × (keys ≡ keys′) × (counts ≡ counts′)
+  adds-label-one t u = (
+    t .number ∙ sym (u .number),
+    t .figures-after ∙ sym (u .figures-after),
+    t .keys-after ∙ sym (u .keys-after),
+    t .counts-after ∙ sym (u .counts-after),
+  )
+
+  pub contracts-table-one : {labels labels′ starts starts′ lengths lengths′ marks marks′ : List ℕ} {c : Contracted}
+      → ContractsTable r labels starts lengths marks figures₀ figures c
+      → ContractsTable s labels′ starts′ lengths′ marks′ figures₀ figures′ c
+      → (r ≡ s) × (figures ≡ figures′) × (labels ≡ labels′) × (starts ≡ starts′) × (lengths ≡ lengths′) × (marks ≡ marks′)
+  contracts-table-one t u = (
+    t .number ∙ sym (u .number),
+    t .figures-after ∙ sym (u .figures-after),
+    t .labels-after ∙ sym (u .labels-after),
+    t .starts-after ∙ sym (u .starts-after),
+    t .lengths-after ∙ sym (u .lengths-after),
+    t .marks-after ∙ sym (u .marks-after),
+  )
+
+  pub writes-fasta-one : {out out′ : List ℕ} {f : Filled} → WritesFasta r out figures₀ figures f
+      → WritesFasta s out′ figures₀ figures′ f → (r ≡ s) × (figures ≡ figures′) × (out ≡ out′)
+  writes-fasta-one t u =
+      (t .number ∙ sym (u .number), t .figures-after ∙ sym (u .figures-after), t .out-after ∙ sym (u .out-after))

@@ -1,0 +1,120 @@
+// The calls of a pipeline for C and Rust: each answers a refusal's number, 0 where there is none, and puts its figures, or what is returned beside
+// the refusal, into the first cells of a lent slice.
+ghost use mathlib.Core.Path.{_≡_};
+ghost use mathlib.Core.List.{[], _∷_};
+ghost use Rattle.state.specs.Counted.{fourBits};
+ghost use Rattle.graph.specs.Sightings.{sameCanonical};
+ghost use Rattle.graph.specs.Adding.{addLabel};
+ghost use Rattle.graph.specs.Contraction.{contract};
+ghost use Rattle.graph.specs.Fasta.{fasta};
+ghost use Rattle.capi.specs.Says.{noted, AddsLabel, ContractsTable, WritesFasta};
+use adding::AddAnswer;
+use contraction::ContractAnswer;
+use fasta::FastaAnswer;
+
+// One figure.
+fn note(a: u64, figures: &mut [u64])
+    ensures { λ _. ⌜ now (figures .exit) ≡ noted (a ∷ []) (now (figures .entry)) ⌝ }
+{
+    if 0 < figures.len() {
+        figures[0] = a;
+    }
+}
+
+// Two figures, as far as there is room.
+fn note_two(a: u64, b: u64, figures: &mut [u64])
+    ensures { λ _. ⌜ now (figures .exit) ≡ noted (a ∷ b ∷ []) (now (figures .entry)) ⌝ }
+{
+    note(a, figures);
+    if 1 < figures.len() {
+        figures[1] = b;
+    }
+}
+
+// `add_label`: figures are the edges and the number stored afterwards.
+#[no_mangle]
+pub extern "C" fn lash_add_label(
+    k: usize,
+    n: usize,
+    keys: &mut [u64],
+    counts: &mut [u32],
+    label: &[u8],
+    figures: &mut [u64],
+) -> u32
+    ensures { λ r. ⌜ AddsLabel r (now (keys .exit)) (now (counts .exit)) (now (figures .entry)) (now (figures .exit)) (addLabel fourBits sameCanonical k n (now (keys .entry)) (now (counts .entry)) (now (label .entry))) ⌝ }
+{
+    match adding::add_label(k, n, keys, counts, label) {
+        AddAnswer::Added { edges, stored } => {
+            note_two(edges as u64, stored as u64, figures);
+            0
+        }
+        AddAnswer::UnsupportedK(k) => {
+            note(k as u64, figures);
+            1
+        }
+        AddAnswer::InvalidBase { place, byte } => {
+            note_two(place as u64, byte as u64, figures);
+            3
+        }
+        AddAnswer::TooLong(length) => {
+            note(length as u64, figures);
+            4
+        }
+        AddAnswer::Unfit => 5,
+        AddAnswer::Full => 6,
+    }
+}
+
+// `contract`: figures are the number of labels and their bases.
+#[no_mangle]
+pub extern "C" fn lash_contract(
+    k: usize,
+    cutoff: u32,
+    n: usize,
+    keys: &[u64],
+    counts: &[u32],
+    labels: &mut [u8],
+    starts: &mut [u32],
+    lengths: &mut [u32],
+    marks: &mut [u8],
+    figures: &mut [u64],
+) -> u32
+    ensures { λ r. ⌜ ContractsTable r (now (labels .exit)) (now (starts .exit)) (now (lengths .exit)) (now (marks .exit)) (now (figures .entry)) (now (figures .exit)) (contract fourBits k cutoff n (now (keys .entry)) (now (counts .entry)) (now (labels .entry)) (now (starts .entry)) (now (lengths .entry)) (now (marks .entry))) ⌝ }
+{
+    match contraction::contract(k, cutoff, n, keys, counts, labels, starts, lengths, marks) {
+        ContractAnswer::Contracted { labels, bases } => {
+            note_two(labels as u64, bases as u64, figures);
+            0
+        }
+        ContractAnswer::UnsupportedK(k) => {
+            note(k as u64, figures);
+            1
+        }
+        ContractAnswer::Unfit => 5,
+        ContractAnswer::FewMarks => 7,
+        ContractAnswer::MissingVertex => 8,
+        ContractAnswer::NoRoom => 9,
+    }
+}
+
+// `write_fasta`: the figure is the number of bytes written.
+#[no_mangle]
+pub extern "C" fn lash_write_fasta(
+    labels: &[u8],
+    starts: &[u32],
+    lengths: &[u32],
+    count: usize,
+    out: &mut [u8],
+    figures: &mut [u64],
+) -> u32
+    ensures { λ r. ⌜ WritesFasta r (now (out .exit)) (now (figures .entry)) (now (figures .exit)) (fasta (now (labels .entry)) (now (starts .entry)) (now (lengths .entry)) count (now (out .entry))) ⌝ }
+{
+    match fasta::write_fasta(labels, starts, lengths, count, out) {
+        FastaAnswer::Written(n) => {
+            note(n as u64, figures);
+            0
+        }
+        FastaAnswer::NoRoom => 11,
+        FastaAnswer::OutOfLabels => 12,
+    }
+}

@@ -1,0 +1,9 @@
+pub mod Breaks
+pub mod Ends
+pub mod Cells
+pub mod Remaining
+pub mod Growing
+pub mod Steps
+pub mod Turns
+pub mod Says
+pub mod Roundtrip

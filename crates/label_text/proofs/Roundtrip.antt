@@ -1,0 +1,77 @@
+-- What is packed is read back. Assumes nothing.
+use mathlib.Core.Path.{_≡_, refl}
+use mathlib.Core.List.{List, [], _∷_, _++_}
+use Prim.Native.Nat.{ℕ, zero, suc, _+_, _*_, _/_, _%_, _^_, _≤_, _<_}
+use native.Mathlib.Nat.{not-suc-le-zero}
+use native.Mathlib.Omega.{arith}
+use borrow.Author.Tests.{le-leb, ltb-false}
+use lib.Dec.{ltb}
+use lib.ListN.{length, take, drop, length-append}
+use lib.Seq.{take-append-seam, drop-append-seam}
+use Rattle.lemmas.proofs.Tests.{choose}
+use Rattle.dna.specs.Answer.{refuses, Filled}
+use Rattle.label_file.specs.LabelFile.{holds, labelsFrom, fileOf, two}
+use Rattle.label_text.specs.Lines.{labelsIn}
+use Rattle.label_text.specs.Packing.{labelRecord, labelRecords, headRecord, packed, packText, Packs}
+use Rattle.label_text.specs.declared.PackAnswer.the-variants as pack
+
+-- Two bytes are a number below 65,536.
+two-bytes : (n : ℕ) → n < 65536 → n % 256 + 256 * (n / 256 % 256) ≡ n
+two-bytes n h = omega arith
+
+-- Four are one below 2^32.
+four-bytes : (n : ℕ) → n < 2 ^ 32 → n % 256 + 256 * (n / 256 % 256) + 65536 * (n / 65536 % 256 + 256 * (n / 65536 / 256 % 256)) ≡ n
+four-bytes n h = omega arith
+
+module _ (K cutoff : ℕ) where
+  -- Each record takes at least one turn's bytes, so that as many turns as bytes suffice.
+  records-read : (labels : List (List ℕ)) (most i : ℕ) → length (labelRecords labels) ≤ most → length (labelRecords labels) ≤ 16384
+      → labelsFrom K cutoff most i (labelRecords labels) ≡ holds K cutoff labels
+  unfolding labelsFrom labelRecords
+  records-read [] zero i h g = refl
+  records-read [] (suc most) i h g = refl
+  records-read (l ∷ ls) zero i h g = absurd (not-suc-le-zero h)
+  records-read (l ∷ ls) (suc most) i h g =
+      let rest = labelRecords ls in
+      let s : List ℕ = labelRecord l ++ rest in
+      let n : length (l ++ rest) ≡ length l + length rest = length-append l rest in
+      let size : two s 2 ≡ length l = two-bytes (length l) (omega arith) in
+      let end : 4 + length l ≡ suc (suc (suc (suc (length l)))) = omega arith in
+      let ih : labelsFrom K cutoff most (suc i) rest ≡ holds K cutoff ls = records-read ls most (suc i) (omega arith) (omega arith) in
+      rw (
+        size,
+        end,
+        le-leb 2 (length s) (omega arith),
+        le-leb 4 (length s) (omega arith),
+        le-leb (suc (suc (suc (suc (length l))))) (length s) (omega arith),
+        take-append-seam l rest,
+        drop-append-seam l rest,
+        ih,
+      )
+
+  pub read-back : (labels : List (List ℕ)) → cutoff < 2 ^ 32 → length (packed K cutoff labels) ≤ 16384
+      → fileOf (packed K cutoff labels) ≡ holds K cutoff labels
+  unfolding fileOf packed
+  read-back labels c h =
+      let s : List ℕ = headRecord K cutoff ++ labelRecords labels in
+      rw (le-leb (length s) 16384 h, le-leb 2 (length s) (omega arith), le-leb 7 (length s) (omega arith), four-bytes cutoff c)
+      (records-read labels (length s) 1 (omega arith) (omega arith))
+
+-- The bytes that `pack` leaves in a slice say K, the cutoff and the labels of the text.
+pub packed-read-back : (K cutoff : ℕ) (text slice out : List ℕ) (n : ℕ) → cutoff < 2 ^ 32
+    → Packs (pack.Packed n) out (packText K cutoff text slice) → fileOf (take n out) ≡ holds K cutoff (labelsIn text)
+unfolding packText
+packed-read-back K cutoff text slice out n c =
+    choose (λ (f : Filled). Packs (pack.Packed n) out f → says) (ltb 16384 (length file)) (λ _. no-refusal 13 slice)
+    (λ t. choose (λ (f : Filled). Packs (pack.Packed n) out f → says) (ltb (length slice) (length file)) (λ _. no-refusal 9 slice)
+    (λ _ p. let e : n ≡ length file = cc (p .answer) in rw (e, p .slice, take-append-seam file (drop (length file) slice))
+    (read-back K cutoff (labelsIn text) c (ltb-false 16384 (length file) t))))
+  where
+    file : List ℕ
+    file = packed K cutoff (labelsIn text)
+
+    says : Type 0
+    says = fileOf (take n out) ≡ holds K cutoff (labelsIn text)
+
+    no-refusal : (r : ℕ) (slice : List ℕ) → Packs (pack.Packed n) out (record { answer = refuses r []; slice = slice }) → says
+    no-refusal r slice p = let z : _≡_ {A = ℕ} 0 1 = cc (p .answer) in absurd (omega arith)

@@ -1,0 +1,4 @@
+pub mod Lines
+pub mod Packing
+pub mod Says
+pub mod Examples

@@ -1,0 +1,39 @@
+-- The labels of a text that people write: FASTA, or one label a line. Assumes nothing.
+use Prim.Native.Nat.{ℕ, _-_}
+use mathlib.Core.Bool.{Bool, cond}
+use mathlib.Core.List.{List, [], _∷_, _++_}
+use lib.Dec.{eqb}
+use lib.ListN.{length, take, getD}
+
+-- A line without the carriage return that some systems put before a newline.
+abbrev pub trimmed : List ℕ → List ℕ
+trimmed l = cond (eqb (getD l (length l - 1) 0) 13) (take (length l - 1) l) l
+
+-- The lines of a text, the first of which has begun with l.
+unfoldable pub linesFrom : List ℕ → List ℕ → List (List ℕ)
+linesFrom l [] = trimmed l ∷ []
+linesFrom l (b ∷ s) = cond (eqb b 10) (trimmed l ∷ linesFrom [] s) (linesFrom (l ++ (b ∷ [])) s)
+
+-- A header of FASTA begins with `>`.
+abbrev pub isHeader : List ℕ → Bool
+isHeader l = eqb (getD l 0 0) 62
+
+-- The records' sequences: the lines between two headers joined, after l.
+unfoldable pub sequences : List ℕ → List (List ℕ) → List (List ℕ)
+sequences l [] = l ∷ []
+sequences l (x ∷ xs) = cond (isHeader x) (l ∷ sequences [] xs) (sequences (l ++ x) xs)
+
+-- Empty ones are left out.
+unfoldable pub filled : List (List ℕ) → List (List ℕ)
+filled [] = []
+filled ([] ∷ ls) = filled ls
+filled ((b ∷ l) ∷ ls) = (b ∷ l) ∷ filled ls
+
+-- A text that begins with `>` is FASTA; in another each line is a label.
+unfoldable pub labelsIn : List ℕ → List (List ℕ)
+labelsIn text = let lines = linesFrom [] text in filled (cond (isHeader text) (sequences [] lines) lines)
+
+-- Opens this file's definitions to a proof that computes.
+unfoldable pub openLines : Unit {0}
+unfolding linesFrom sequences filled labelsIn
+openLines = tt

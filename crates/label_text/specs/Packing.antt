@@ -1,0 +1,52 @@
+-- Labels as a label file. Assumes nothing.
+use Prim.Native.Nat.{ℕ, _/_, _%_}
+use mathlib.Core.Path.{_≡_}
+use mathlib.Core.Bool.{cond}
+use mathlib.Core.List.{List, [], _∷_, _++_}
+use lib.Dec.{ltb}
+use lib.ListN.{length}
+use Rattle.dna.specs.Text.{bytes}
+use Rattle.dna.specs.Answer.{Answer, gives, refuses, Filled, fill}
+use Rattle.label_text.specs.Lines.{labelsIn}
+use Rattle.label_text.specs.declared.PackAnswer.{PackAnswer}
+use Rattle.label_text.specs.declared.PackAnswer.the-variants as pack
+
+-- A number in two bytes, low byte first.
+abbrev pub twoBytes : ℕ → List ℕ
+twoBytes n = n % 256 ∷ n / 256 % 256 ∷ []
+
+-- The `KC` record.
+abbrev pub headRecord : ℕ → ℕ → List ℕ
+headRecord K cutoff = bytes "KC" ++ (K ∷ []) ++ twoBytes cutoff ++ twoBytes (cutoff / 65536)
+
+-- The `LB` record of a label.
+abbrev pub labelRecord : List ℕ → List ℕ
+labelRecord l = bytes "LB" ++ twoBytes (length l) ++ l
+
+unfoldable pub labelRecords : List (List ℕ) → List ℕ
+labelRecords [] = []
+labelRecords (l ∷ ls) = labelRecord l ++ labelRecords ls
+
+unfoldable pub packed : ℕ → ℕ → List (List ℕ) → List ℕ
+packed K cutoff labels = headRecord K cutoff ++ labelRecords labels
+
+-- A text's label file in a slice, or that it exceeds 16,384 bytes or the slice.
+unfoldable pub packText : ℕ → ℕ → List ℕ → List ℕ → Filled
+packText K cutoff text slice =
+    let file = packed K cutoff (labelsIn text) in
+    cond (ltb 16384 (length file)) (record { answer = refuses 13 []; slice = slice }) (fill 9 file slice)
+
+abbrev pub packAnswer : PackAnswer → Answer ℕ
+packAnswer (pack.Packed n) = gives n
+packAnswer pack.TooLarge = refuses 13 []
+packAnswer pack.NoRoom = refuses 9 []
+
+-- A call that packs: its answer, and the slice at exit.
+pub record Packs (r : PackAnswer) (out : List ℕ) (f : Filled) : Type 0 where
+  pub answer : packAnswer r ≡ f .answer
+  pub slice : out ≡ f .slice
+
+-- Opens this file's definitions to a proof that computes.
+unfoldable pub openPacking : Unit {0}
+unfolding labelRecords packed packText
+openPacking = tt

@@ -1,0 +1,79 @@
+/* Lashgranary for C: the calls of a pipeline over memory that the caller lends. The functions are those of the proved crate
+ * capi; their contracts are in crates/capi/src/lib.rt.
+ *
+ * Each slice is a pointer and its length in elements. A pointer must be aligned, not null (for a length of 0 too) and good for
+ * its length, and a slice that is not const must overlap no other slice of the call.
+ *
+ * Each call returns 0, or the number of the one refusal that applies. It writes its figures into the first cells of the slice
+ * figures, as many as have room (two are always enough), and leaves the rest as it was: where it returns 0 the figures named
+ * at the call, else what is returned beside the refusal, which is nothing where none is named. A refusal changes no other lent
+ * memory, except that 8 and 9 set the first n marks to 0.
+ *
+ * A table of n vertices is keys, two words a vertex, low word first, and counts, one word of eight four-bit counters a vertex.
+ * Its capacity is the least of half the keys' length, the counts' length and 65,536. An empty table is n = 0, whatever the
+ * slices hold. It is fit if n is at most the capacity and the keys strictly ascend, are canonical and below 4 to the K.
+ */
+#ifndef LASHGRANARY_H
+#define LASHGRANARY_H
+
+#include <stddef.h>
+#include <stdint.h>
+
+#ifdef __cplusplus
+extern "C" {
+#endif
+
+/* Adds a label to a table of n vertices. Bases are the letters ACGTU in either case.
+ * Figures: the edges, which is length minus K (0 for a label shorter than K, which changes nothing), and the number stored
+ * afterwards, the n of the next call.
+ * Refusals, in the order in which they are tried:
+ *   1  K outside 1..63; figure: K
+ *   5  table not fit
+ *   4  label over 4,096 bytes; figure: the length
+ *   3  a byte of a label of K bytes or more is no base; figures: the first such place, from 0, and its byte
+ *   6  stored plus new distinct k-mers exceed the capacity
+ */
+uint32_t lash_add_label(size_t k, size_t n,
+                        uint64_t *keys, size_t keys_len,
+                        uint32_t *counts, size_t counts_len,
+                        const uint8_t *label, size_t label_len,
+                        uint64_t *figures, size_t figures_len);
+
+/* Contracts a table of n vertices; an edge is retained if its count is at least the cutoff. The labels' bases stand end to end
+ * from the first byte of labels; starts and lengths list them in ascending byte order. The first n marks are 1 for a visited
+ * vertex and 0 for another; their content before does not matter. The labels hold at most n times K bases together.
+ * Figures: the number of labels and the total of their bases.
+ * Refusals, in the order in which they are tried:
+ *   1  K outside 1..63; figure: K
+ *   5  table not fit
+ *   7  marks shorter than n
+ *   8  a walk's next vertex is not stored (hand-made tables)
+ *   9  the labels exceed the slice labels, or their number exceeds starts or lengths
+ */
+uint32_t lash_contract(size_t k, uint32_t cutoff, size_t n,
+                       const uint64_t *keys, size_t keys_len,
+                       const uint32_t *counts, size_t counts_len,
+                       uint8_t *labels, size_t labels_len,
+                       uint32_t *starts, size_t starts_len,
+                       uint32_t *lengths, size_t lengths_len,
+                       uint8_t *marks, size_t marks_len,
+                       uint64_t *figures, size_t figures_len);
+
+/* Writes ">0", newline, label, newline for each of the first count entries of starts and lengths, in order.
+ * Figure: the number of bytes written.
+ * Refusals, in the order in which they are tried:
+ *   12  count past starts or lengths, or an entry past the labels
+ *   11  the FASTA exceeds the slice out
+ */
+uint32_t lash_write_fasta(const uint8_t *labels, size_t labels_len,
+                          const uint32_t *starts, size_t starts_len,
+                          const uint32_t *lengths, size_t lengths_len,
+                          size_t count,
+                          uint8_t *out, size_t out_len,
+                          uint64_t *figures, size_t figures_len);
+
+#ifdef __cplusplus
+}
+#endif
+
+#endif
