@@ -1,16 +1,13 @@
 -- How adding a label ends before its k-mers are stored: the refusals 1, 5, 4, a label shorter than K, 3. Assumes nothing.
 use mathlib.Core.Path.{_≡_, refl, sym, ap, _∙_}
-use mathlib.Core.Bool.{Bool, true, false, cond}
-use mathlib.Core.List.{List, [], _∷_}
+use mathlib.Core.Bool.{true}
+use mathlib.Core.List.{List, []}
 use Prim.Native.Nat.{ℕ, _≤_, _<_}
-use native.Mathlib.Omega.{arith}
-use lib.Dec.{leb}
 use lib.ListN.{length}
-use borrow.Author.Tests.{leb-true, lt-ltb, le-ltb}
-use Rattle.lemmas.proofs.Tests.{both}
-use Rattle.dna.specs.Answer.{Answer, gives, refuses}
+use borrow.Author.Tests.{lt-ltb, le-ltb}
 use Rattle.dna.specs.Letters.{firstBad}
 use Rattle.kmer.specs.Kmer.{okK}
+use Rattle.kmer.proofs.Bounds.{ok-bounds}
 use Rattle.state.specs.Counted.{fourBits}
 use Rattle.graph.specs.Table.{fit}
 use Rattle.graph.specs.Sightings.{sameCanonical}
@@ -19,33 +16,12 @@ use Rattle.graph.proofs.Accepted.{no-bad-bases}
 use Rattle.table.specs.Calls.{fitAnswer, fitCall}
 use Rattle.table.specs.declared.FitAnswer.{FitAnswer}
 use Rattle.table.specs.declared.FitAnswer.the-variants.{Fit, Unfit, UnsupportedK}
+use Rattle.table.proofs.Told.{told-unsupported, told-unfit, told-fit}
 use Rattle.adding.specs.Says.{addAnswer, Adds, Addable, placeIn}
 use Rattle.adding.specs.declared.Bad.{Bad}
 use Rattle.adding.specs.declared.Bad.the-variants as bad
 use Rattle.adding.specs.declared.AddAnswer.{AddAnswer}
 use Rattle.adding.specs.declared.AddAnswer.the-variants as add
-
--- ---- what the test of the table tells
-
-abbrev tested : ℕ → Bool → Bool → Answer (Unit {0})
-tested K t u = cond t (cond u (gives tt) (refuses 5 [])) (refuses 1 (K ∷ []))
-
-told-unsupported : (K k : ℕ) (t u : Bool) → refuses 1 (k ∷ []) ≡ tested K t u → (t ≡ false) × (k ≡ K)
-told-unsupported K k true true e = let z : _≡_ {A = ℕ} 0 1 = cc in absurd (omega arith)
-told-unsupported K k true false e = let z : _≡_ {A = ℕ} 1 5 = cc in absurd (omega arith)
-told-unsupported K k false u e = (refl, cc)
-
-told-unfit : (K : ℕ) (t u : Bool) → refuses 5 [] ≡ tested K t u → (t ≡ true) × (u ≡ false)
-told-unfit K true true e = let z : _≡_ {A = ℕ} 0 1 = cc in absurd (omega arith)
-told-unfit K true false e = (refl, refl)
-told-unfit K false u e = let z : _≡_ {A = ℕ} 5 1 = cc in absurd (omega arith)
-
-told-fit : (K : ℕ) (t u : Bool) → gives tt ≡ tested K t u → (t ≡ true) × (u ≡ true)
-told-fit K true true e = (refl, refl)
-told-fit K true false e = let z : _≡_ {A = ℕ} 0 1 = cc in absurd (omega arith)
-told-fit K false u e = let z : _≡_ {A = ℕ} 0 1 = cc in absurd (omega arith)
-
--- ---- each way to end
 
 abbrev whole : ℕ → ℕ → List ℕ → List ℕ → List ℕ → Added
 whole K n keys counts label = addLabel fourBits sameCanonical K n keys counts label
@@ -58,18 +34,18 @@ module _ (K n : ℕ) (keys counts label : List ℕ) {r : FitAnswer} (t : fitAnsw
   pub unsupported : {k : ℕ} → r ≡ UnsupportedK k → Adds (add.UnsupportedK k) keys counts (whole K n keys counts label)
   unfolding addLabel
   unsupported {k} e =
-      let q = told-unsupported K k (okK K) (fit K n keys counts) (sym (ap fitAnswer e) ∙ t) in
+      let q = told-unsupported K n keys counts t e in
       rw (q .0, q .1) stays
 
   pub unfit : r ≡ Unfit → Adds add.Unfit keys counts (whole K n keys counts label)
   unfolding addLabel
   unfit e =
-      let q = told-unfit K (okK K) (fit K n keys counts) (sym (ap fitAnswer e) ∙ t) in
+      let q = told-unfit K n keys counts t e in
       rw (q .0, q .1) stays
 
   module _ (e : r ≡ Fit) where
     ok : (okK K ≡ true) × (fit K n keys counts ≡ true)
-    ok = told-fit K (okK K) (fit K n keys counts) (sym (ap fitAnswer e) ∙ t)
+    ok = told-fit K n keys counts t e
 
     pub too-long : 4096 < length label → Adds (add.TooLong (length label)) keys counts (whole K n keys counts label)
     unfolding addLabel
@@ -97,11 +73,11 @@ module _ (K n : ℕ) (keys counts label : List ℕ) {r : FitAnswer} (t : fitAnsw
 
         pub addable : b ≡ bad.Nowhere → Addable K label n keys counts
         addable q =
-            let l = both (leb 1 K) (leb K 63) (ok .0) in
+            let l = ok-bounds K (ok .0) in
             record {
               given = record {
-                low = leb-true 1 K (l .0);
-                high = leb-true K 63 (l .1);
+                low = l .0;
+                high = l .1;
                 long = long;
                 short = short;
                 bases = no-bad-bases 0 label (sym p ∙ ap placeIn q);

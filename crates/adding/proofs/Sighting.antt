@@ -2,10 +2,10 @@
 use mathlib.Core.Path.{_≡_, refl, sym, ap, _∙_}
 use mathlib.Core.Bool.{Bool, true, false, cond}
 use mathlib.Core.List.{List, [], _∷_, _++_}
-use Prim.Native.Nat.{ℕ, zero, suc, _+_, _<_}
+use Prim.Native.Nat.{ℕ, _+_, _<_}
 use lib.Dec.{ltb}
 use lib.ListN.{length, getD, set}
-use lib.Seq.{getD-set-same}
+use lib.Seq.{getD-set-same, set-getD, set-set}
 use Rattle.dna.specs.Letters.{complement}
 use Rattle.kmer.specs.Kmer.{canon, isCanon}
 use Rattle.state.specs.declared.Side.{Side}
@@ -16,16 +16,6 @@ use Rattle.graph.specs.Sightings.{Rule, window, predecessor, successor, sightin
 use Rattle.graph.specs.Adding.{sightAll}
 use Rattle.graph.proofs.Adding.{all-append}
 use Rattle.adding.specs.Says.{sightedWord}
-
-set-same : (l : List ℕ) (i : ℕ) → set l i (getD l i 0) ≡ l
-set-same [] i = refl
-set-same (x ∷ l) zero = refl
-set-same (x ∷ l) (suc i) = ap (λ (r : List ℕ). x ∷ r) (set-same l i)
-
-set-set : (l : List ℕ) (i a b : ℕ) → set (set l i a) i b ≡ set l i b
-set-set [] i a b = refl
-set-set (x ∷ l) zero a b = refl
-set-set (x ∷ l) (suc i) a b = ap (λ (r : List ℕ). x ∷ r) (set-set l i a b)
 
 -- A table with another word at a place.
 abbrev wordAt : Table → ℕ → ℕ → Table
@@ -45,7 +35,7 @@ module _ (κ : Kind) (t : Table) (x : ℕ) where
       go : (b4 : Bool) → sightAll κ t (cond b4 (record { kmer = x; slot = slotOf s b } ∷ []) [])
           ≡ wordAt t here (cond b4 (raise κ word (slotOf s b)) word)
       go true = refl
-      go false = ap (λ (cs : List ℕ). record { keys = t .keys; counts = cs }) (sym (set-same (t .counts) here))
+      go false = ap (λ (cs : List ℕ). record { keys = t .keys; counts = cs }) (sym (set-getD (t .counts) here 0))
 
 module _ (κ : Kind) (t : Table) (x : ℕ) (inside : rank (t .keys) x < length (t .counts)) where
   two-sides : (p q : ℕ)

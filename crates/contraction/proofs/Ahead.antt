@@ -6,13 +6,14 @@ use Prim.Native.Nat.{ℕ, _+_, _≤_, _<_}
 use native.Mathlib.Omega.{arith}
 use lib.ListN.{length, set, length-append, length-set}
 use Rattle.dna.specs.Text.{over}
+use Rattle.dna.proofs.Overwriting.{over-one}
 use Rattle.graph.specs.Walks.{visited, isolated}
 use Rattle.graph.specs.Labels.{Run, extract}
 use Rattle.graph.specs.Contraction.{entries, endToEnd}
 use Rattle.contraction.specs.Marks.{ends, visits, keysFor, labelIn, runIn}
 use Rattle.contraction.specs.Says.{WritesLabel, startsOf, lengthsOf}
 use Rattle.contraction.proofs.Listed.{Listed, long-now, skips}
-use Rattle.contraction.proofs.Appending.{end-to-end-snoc, length-starts, length-lengths, starts-snoc, lengths-snoc, over-pasted, over-one}
+use Rattle.contraction.proofs.Appending.{end-to-end-snoc, length-starts, length-lengths, starts-snoc, lengths-snoc, over-pasted}
 use Rattle.contraction.proofs.Running.{labelFrom, run-takes, extract-labels, run-grown, run-small, label-now, marks-now}
 
 -- There is room for the label of the next anchor and for its entry, and both are short enough for 32 bits.

@@ -1,5 +1,5 @@
 -- Lists no two of whose elements have the same text, and lists put in order. Assumes nothing.
-use mathlib.Core.Path.{_≡_, refl, sym, ap, _∙_}
+use mathlib.Core.Path.{_≡_, refl, sym, ap}
 use mathlib.Core.Bool.{Bool}
 use mathlib.Core.List.{List, [], _∷_, _++_, map}
 use Prim.Native.Nat.{ℕ, zero, suc, _<_}
@@ -24,6 +24,10 @@ module _ {A : Type 0} where
   each-map f none = none
   each-map f (more {x = x} p e) = more (f x p) (each-map f e)
 
+  pub each-both : {P Q R : A → Type 0} → ((x : A) → P x → Q x → R x) → {xs : List A} → Each P xs → Each Q xs → Each R xs
+  each-both f none none = none
+  each-both f (more {x = x} p e) (more q d) = more (f x p q) (each-both f e d)
+
   -- Elements of the same text stand at one place.
   pub apart-at : {text : A → List ℕ} {xs : List A} → Apart text xs → (d : A) (i j : ℕ) → i < length xs → j < length xs
       → text (getD xs i d) ≡ text (getD xs j d) → i ≡ j
@@ -42,18 +46,6 @@ module _ {A : Type 0} where
   -- ---- in order
 
   module _ (first : A → A → Bool) where
-    put-length : (x : A) (xs : List A) → length (putBy first x xs) ≡ suc (length xs)
-    unfolding putBy
-    put-length x [] = refl
-    put-length x (y ∷ xs) =
-        let ih = put-length x xs in
-        choose (λ (z : List A). length z ≡ suc (suc (length xs))) (first y x) (λ _. ap suc ih) (λ _. refl)
-
-    pub sort-length : (xs : List A) → length (sortBy first xs) ≡ length xs
-    unfolding sortBy
-    sort-length [] = refl
-    sort-length (x ∷ xs) = put-length x (sortBy first xs) ∙ ap suc (sort-length xs)
-
     put-each : (P : A → Type 0) (x : A) {xs : List A} → P x → Each P xs → Each P (putBy first x xs)
     unfolding putBy
     put-each P x h none = more h none

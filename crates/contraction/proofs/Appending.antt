@@ -1,12 +1,11 @@
 -- One label more behind some that stand end to end: their text, their starts and their lengths. Assumes nothing.
 use mathlib.Core.Path.{_≡_, refl, ap, _∙_}
 use mathlib.Core.List.{List, [], _∷_, _++_, map-append, append-assoc, append-nil}
-use Prim.Native.Nat.{ℕ, _+_, _<_}
+use Prim.Native.Nat.{ℕ, _+_}
 use native.Mathlib.Nat.{add-zero, zero-add}
-use native.Mathlib.Numerals.{add-one}
 use native.Mathlib.Omega.{arith}
-use lib.Seq.{paste, take-append-seam, drop-append-add, drop-drop, take-length, drop-cons, set-append-seam, append-snoc}
-use lib.ListN.{length, drop, set, length-append, length-map}
+use lib.Seq.{paste, take-append-seam, drop-append-add, drop-drop, take-length}
+use lib.ListN.{length, drop, length-append, length-map}
 use Rattle.dna.specs.Text.{over}
 use Rattle.graph.specs.Contraction.{Entry, entries, endToEnd}
 use Rattle.contraction.specs.Says.{startsOf, lengthsOf}
@@ -53,10 +52,3 @@ module _ (text slice : List ℕ) where
         drop-drop (length more) (length text) slice,
         length-append text more,
       )
-
-  -- One cell behind the text.
-  pub over-one : {slice′ next : List ℕ} (n v : ℕ) → slice′ ≡ over text slice → n ≡ length text → n < length slice → next ≡ text ++ (v ∷ [])
-      → set slice′ n v ≡ over next slice
-  over-one n v e f h q =
-      let l : length text < length slice = omega arith in
-      rw (e, f, q, drop-cons slice (length text) 0 l, set-append-seam, length-append, add-one, append-snoc)

@@ -7,13 +7,13 @@ use native.Mathlib.Omega.{arith}
 use lib.Dec.{ltb}
 use lib.ListN.{length, take, replicate, length-replicate}
 use borrow.Author.Tests.{ltb-false}
+use Rattle.lemmas.proofs.Tests.{or-first, or-second}
 use Rattle.dna.specs.Text.{over}
 use Rattle.dna.specs.Answer.{gives}
 use Rattle.state.specs.Counted.{fourBits}
 use Rattle.graph.specs.Table.{keysOf, tableOf}
 use Rattle.graph.specs.Labels.{Run, run}
 use Rattle.graph.specs.Contraction.{entries, sorted, endToEnd, endsIn, written, finish}
-use Rattle.laws.proofs.Tours.{or-first, or-second}
 use Rattle.contraction.specs.Marks.{markOf, Ready, runIn}
 use Rattle.contraction.specs.Says.{Contracts, Table, Surveys, Roomy, Unvisited, Lists, finishIn}
 use Rattle.contraction.specs.declared.ContractAnswer.the-variants as answers

@@ -15,9 +15,10 @@ use Rattle.graph.specs.Contraction.{Entry, putIn, sorted}
 use Rattle.laws.specs.Demand.{Each, Each.none, Each.more}
 use Rattle.laws.proofs.Indexed.{sorted-each}
 use Rattle.sorting.specs.Index.{Spot, comesFirst, spots, putBy, sortBy, sortedSpots}
+use Rattle.sorting.proofs.Ordered.{sort-length}
 use Rattle.contraction.specs.Says.{startsOf, lengthsOf, Ordered}
 use Rattle.dna.proofs.Overwriting.{over-over}
-use Rattle.contraction.proofs.Apart.{Apart, Apart.alone, Apart.beside, sort-length}
+use Rattle.contraction.proofs.Apart.{Apart, Apart.alone, Apart.beside}
 
 abbrev spotOf : Entry → Spot
 spotOf e = record { start = e .start; length = length (e .label) }

@@ -2,32 +2,24 @@
 use mathlib.Core.Path.{_≡_, refl, sym, ap, _∙_}
 use mathlib.Core.Bool.{Bool, true, false, cond, _||_}
 use mathlib.Core.List.{List, _++_, map}
-use Prim.Native.Nat.{ℕ, _+_, _≤_}
+use Prim.Native.Nat.{ℕ, _+_}
 use native.Mathlib.Omega.{arith}
-use borrow.Author.Tests.{leb-true}
-use lib.Dec.{leb}
 use lib.ListN.{length, getD, length-append, length-map}
-use Rattle.lemmas.proofs.Tests.{choose, both}
 use Rattle.dna.specs.Letters.{letterOf, reverseComplement}
-use Rattle.dna.specs.Order.{before}
 use Rattle.dna.proofs.Reversal.{length-reverseComplement}
 use Rattle.kmer.specs.Kmer.{rc, letters}
+use Rattle.kmer.proofs.Bounds.{ok-bounds}
 use Rattle.kmer.proofs.Spelling.{length-letters}
 use Rattle.state.specs.declared.Side.the-variants.{Front, Back}
 use Rattle.graph.specs.declared.Step.{Step}
 use Rattle.graph.specs.declared.Step.the-variants.{Next, Stop, Missing}
-use Rattle.graph.specs.Table.{keysOf}
 use Rattle.graph.specs.Walks.{Ends, Walk, walk, closed, missing}
-use Rattle.graph.specs.Labels.{lesser, spelt, labelOf, extract}
-use Rattle.contraction.specs.Marks.{ends, visits, keysFor, walkIn, labelIn, Ready}
+use Rattle.graph.specs.Labels.{spelt, labelOf, extract}
+use Rattle.laws.proofs.Plain.{lesser-length}
+use Rattle.contraction.specs.Marks.{ends, keysFor, walkIn, labelIn, Ready}
 use Rattle.contraction.specs.Says.{Walks, Extracts}
 use Rattle.contraction.specs.declared.Walked.{Walked}
-use Rattle.contraction.proofs.Marking.{ends-length}
-
-lesser-length : (l : List ℕ) → length (lesser l) ≡ length l
-unfolding lesser
-lesser-length l =
-    choose (λ (m : List ℕ). length m ≡ length l) (before (reverseComplement l) l) (λ _. length-reverseComplement l) (λ _. refl)
+use Rattle.contraction.proofs.Marking.{ends-length, walk-still}
 
 spelt-length : (K x : ℕ) (w : Walk) → length (spelt K x w) ≡ K + length (w .bases)
 spelt-length K x w =
@@ -57,9 +49,6 @@ closed-found (Next v s b) h = refl
 closed-found (Stop why) h = refl
 closed-found Missing h = sym h
 
-pub k-small : {K : ℕ} {keys ms : List ℕ} → Ready K keys ms → K ≤ 63
-k-small {K} r = leb-true K 63 (both (leb 1 K) (leb K 63) (r .ok) .1)
-
 module _ {K : ℕ} {keys ms : List ℕ} (r : Ready K keys ms) (a : ℕ) {b : Walked} {ms₁ : List ℕ} (back : Walks K keys ms a Back b ms₁) where
   abbrev B : Walk
   B = walkIn K keys ms a Back
@@ -81,15 +70,14 @@ module _ {K : ℕ} {keys ms : List ℕ} (r : Ready K keys ms) (a : ℕ) {b : Wal
         missed = rw (closed-found (B .last) c, c);
         ends-kept = back .ends-kept;
         visits-after = rw c (back .visits-after);
-        few = omega (arith, back .few, r .few, k-small r);
+        few = omega (arith, back .few, r .few, ok-bounds K (r .ok) .1);
       }
 
   -- The Front walk starts from the marks that the Back walk left.
   module _ {f : Walked} {ms₂ : List ℕ} (front : Walks K keys ms₁ a Front f ms₂) where
     front-is : walkIn K keys ms₁ a Front ≡ F
     front-is =
-        ap (λ (n : ℕ). walk K (keysOf n keys) (ends ms₁) a Front (visits ms₁)) (ends-length ms ms₁ (back .ends-kept))
-        ∙ ap (λ (es : List Ends). walk K (keysFor ms keys) es a Front (visits ms₁)) (back .ends-kept)
+        walk-still ms ms₁ (back .ends-kept) K keys a Front
         ∙ ap (λ (m : List ℕ). walk K (keysFor ms keys) (ends ms) a Front m) (back .visits-after)
 
     pub extracts-open : closed (b .last) ≡ false → {t : Bool} → t ≡ (missing (b .last) || missing (f .last))
@@ -103,5 +91,5 @@ module _ {K : ℕ} {keys ms : List ℕ} (r : Ready K keys ms) (a : ℕ) {b : Wal
           missed = e ∙ rw (back .last, l, c);
           ends-kept = front .ends-kept ∙ back .ends-kept;
           visits-after = front .visits-after ∙ rw (front-is, c);
-          few = omega (arith, back .few, front .few, ends-length ms ms₁ (back .ends-kept), r .few, k-small r);
+          few = omega (arith, back .few, front .few, ends-length ms ms₁ (back .ends-kept), r .few, ok-bounds K (r .ok) .1);
         }

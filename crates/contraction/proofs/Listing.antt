@@ -1,18 +1,19 @@
 -- The labels of a run, written end to end with their index: the index is normal, and put in order it is the definition's.
 -- Assumes nothing.
-use mathlib.Core.Path.{_≡_, refl, sym, ap, _∙_}
-use mathlib.Core.List.{List, [], _∷_, _++_, append-assoc}
+use mathlib.Core.Path.{_≡_, refl, sym, _∙_}
+use mathlib.Core.List.{List, []}
 use Prim.Native.Nat.{ℕ, _+_}
 use native.Mathlib.Omega.{arith}
-use lib.ListN.{length, take, drop, length-append}
-use lib.Seq.{take-at, drop-at}
+use lib.ListN.{length, drop}
 use Rattle.graph.specs.Labels.{lesser}
 use Rattle.graph.specs.Contraction.{Entry, entries, sorted, endToEnd}
-use Rattle.laws.specs.Demand.{Each, Each.none, Each.more}
+use Rattle.laws.specs.Demand.{Each}
+use Rattle.laws.proofs.Indexed.{entries-each}
+use Rattle.laws.proofs.Listed.{entries-right}
 use Rattle.contraction.specs.Marks.{visits, Ready, runIn}
 use Rattle.contraction.specs.Says.{Roomy, Lists, Writes, Normal, Ordered}
 use Rattle.contraction.proofs.Appending.{length-entries}
-use Rattle.contraction.proofs.Apart.{Apart, Apart.alone, Apart.beside, each-map}
+use Rattle.contraction.proofs.Apart.{Apart, Apart.alone, Apart.beside, each-map, each-both}
 use Rattle.contraction.proofs.Normalizing.{Named, normal-of}
 use Rattle.contraction.proofs.Indexing.{index-is}
 use Rattle.contraction.proofs.Distinct.{labels-least, labels-apart}
@@ -22,36 +23,10 @@ use Rattle.contraction.proofs.Distinct.{labels-least, labels-apart}
 abbrev Named-entry : List ℕ → Entry → Type 0
 Named-entry bytes e = Named (λ (e : Entry). e .start) (λ (e : Entry). length (e .label)) (λ (e : Entry). e .label) bytes e
 
-entries-each : {P : List ℕ → Type 0} (at : ℕ) {ls : List (List ℕ)} → Each P ls → Each (λ (e : Entry). P (e .label)) (entries at ls)
-unfolding entries
-entries-each at none = none
-entries-each at (more {x = l} p q) = more p (entries-each (at + length l) q)
-
 entries-apart : (at : ℕ) {ls : List (List ℕ)} → Apart (λ l. l) ls → Apart (λ (e : Entry). e .label) (entries at ls)
 unfolding entries
 entries-apart at alone = alone
-entries-apart at (beside {x = l} f a) = beside (entries-each (at + length l) f) (entries-apart (at + length l) a)
-
-entries-named : (at : ℕ) (first : List ℕ) {ls : List (List ℕ)} (rest bytes : List ℕ) → length first ≡ at
-    → bytes ≡ first ++ (endToEnd ls ++ rest) → Each (λ l. lesser l ≡ l) ls → Each (Named-entry bytes) (entries at ls)
-unfolding entries endToEnd
-entries-named at first rest bytes n e none = none
-entries-named at first rest bytes n e (more {x = l} {xs = ls} p q) =
-    let flat : (l ++ endToEnd ls) ++ rest ≡ l ++ (endToEnd ls ++ rest) = append-assoc l (endToEnd ls) rest in
-    more {x = record { start = at; label = l }}
-    (record {
-      reads = ap (λ (b : List ℕ). take (length l) (drop at b)) e
-          ∙ ap (take (length l)) (drop-at first ((l ++ endToEnd ls) ++ rest) at n ∙ flat) ∙ take-at l (endToEnd ls ++ rest) (length l) refl;
-      inside = omega (
-        arith,
-        ap length (e ∙ ap (λ (b : List ℕ). first ++ b) flat),
-        length-append first (l ++ (endToEnd ls ++ rest)),
-        length-append l (endToEnd ls ++ rest),
-      );
-      least = p;
-    })
-    (entries-named (at + length l) (first ++ l) rest bytes (length-append first l ∙ ap (λ (m : ℕ). m + length l) n)
-    (e ∙ ap (λ (b : List ℕ). first ++ b) flat ∙ sym (append-assoc first l (endToEnd ls ++ rest))) q)
+entries-apart at (beside {x = l} f a) = beside (entries-each (λ m. l ≡ m → ⊥) (at + length l) f) (entries-apart (at + length l) a)
 
 -- ---- the labels of a run
 
@@ -64,7 +39,10 @@ module _ (K : ℕ) (keys ms : List ℕ) (rd : Ready K keys ms) {count : ℕ} {af
   es = entries 0 (runIn K keys ms (length ms) .labels)
 
   named : Each (Named-entry b) es
-  named = entries-named 0 [] (drop (length (endToEnd ls)) b₀) b refl (w .lists .letters) (labels-least K keys ms rd)
+  named =
+      each-both (λ e r p. record { reads = r .0; inside = r .1; least = p })
+      (entries-right 0 [] ls (drop (length (endToEnd ls)) b₀) b refl (w .lists .letters))
+      (entries-each (λ m. lesser m ≡ m) 0 (labels-least K keys ms rd))
 
   apart : Apart (λ (e : Entry). e .label) es
   apart = entries-apart 0 (labels-apart K keys ms rd)

@@ -11,8 +11,10 @@ use Rattle.dna.specs.Text.{over, part}
 use Rattle.graph.specs.Labels.{lesser}
 use Rattle.laws.specs.Demand.{Each, Each.none, Each.more}
 use Rattle.sorting.specs.Index.{Spot, textOf, comesFirst, entryAt, spots, sortedSpots, Sorts}
+use Rattle.sorting.proofs.Ordered.{sort-length}
+use Rattle.sorting.proofs.Rows.{spots-length}
 use Rattle.contraction.specs.Says.{labelAt, Normal, Ordered}
-use Rattle.contraction.proofs.Apart.{Apart, Apart.alone, Apart.beside, each-at, apart-at, getD-map-append, sort-length}
+use Rattle.contraction.proofs.Apart.{Apart, Apart.alone, Apart.beside, each-at, apart-at, getD-map-append}
 use Rattle.contraction.proofs.Apart.{sort-each, sort-apart}
 
 -- ---- a part that is what it was
@@ -66,13 +68,6 @@ spots-each (suc n) [] l hs hl f = absurd (omega arith)
 spots-each (suc n) (x ∷ s) [] hs hl f = absurd (omega arith)
 spots-each (suc n) (x ∷ s) (m ∷ l) hs hl f =
     more (f 0 (omega arith)) (spots-each n s l (omega arith) (omega arith) (λ i h. f (suc i) (omega arith)))
-
-spots-length : (n : ℕ) (s l : List ℕ) → n ≤ length s → n ≤ length l → length (spots n s l) ≡ n
-unfolding spots
-spots-length zero s l hs hl = refl
-spots-length (suc n) [] l hs hl = absurd (omega arith)
-spots-length (suc n) (x ∷ s) [] hs hl = absurd (omega arith)
-spots-length (suc n) (x ∷ s) (m ∷ l) hs hl = ap suc (spots-length n s l (omega arith) (omega arith))
 
 spots-apart : (b : List ℕ) (n : ℕ) (s l : List ℕ) → n ≤ length s → n ≤ length l
     → ((i j : ℕ) → i < n → j < n → labelAt b s l i ≡ labelAt b s l j → i ≡ j) → Apart (textOf b) (spots n s l)

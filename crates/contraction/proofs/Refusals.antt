@@ -1,7 +1,7 @@
 -- How contraction ends before a walk is followed: the refusals 1, 5, 7, and what the rest may rely on. Assumes nothing.
-use mathlib.Core.Path.{_≡_, refl, sym, ap, _∙_}
-use mathlib.Core.Bool.{Bool, true, false, cond}
-use mathlib.Core.List.{List, [], _∷_}
+use mathlib.Core.Path.{_≡_, refl, ap, _∙_}
+use mathlib.Core.Bool.{true}
+use mathlib.Core.List.{List}
 use Prim.Native.Nat.{ℕ, _≤_, _<_}
 use native.Mathlib.Omega.{arith}
 use lib.Dec.{leb}
@@ -9,7 +9,6 @@ use lib.ListN.{length, take}
 use lib.Seq.{length-take-le}
 use borrow.Author.Tests.{lt-ltb, le-ltb}
 use Rattle.lemmas.proofs.Tests.{both}
-use Rattle.dna.specs.Answer.{Answer, gives, refuses}
 use Rattle.kmer.specs.Kmer.{okK}
 use Rattle.state.specs.Counted.{fourBits}
 use Rattle.graph.specs.Table.{keysOf, capacity, fitFrom, fit}
@@ -18,31 +17,10 @@ use Rattle.graph.proofs.Accepted.{fit-room}
 use Rattle.table.specs.Calls.{fitAnswer, fitCall}
 use Rattle.table.specs.declared.FitAnswer.{FitAnswer}
 use Rattle.table.specs.declared.FitAnswer.the-variants.{Fit, Unfit, UnsupportedK}
+use Rattle.table.proofs.Told.{told-unsupported, told-unfit, told-fit}
 use Rattle.contraction.specs.Says.{contractAnswer, Contracts, Table, finishIn}
 use Rattle.contraction.specs.declared.ContractAnswer.{ContractAnswer}
 use Rattle.contraction.specs.declared.ContractAnswer.the-variants as answers
-
--- ---- what the test of the table tells
-
-abbrev tested : ℕ → Bool → Bool → Answer (Unit {0})
-tested K t u = cond t (cond u (gives tt) (refuses 5 [])) (refuses 1 (K ∷ []))
-
-told-unsupported : (K k : ℕ) (t u : Bool) → refuses 1 (k ∷ []) ≡ tested K t u → (t ≡ false) × (k ≡ K)
-told-unsupported K k true true e = let z : _≡_ {A = ℕ} 0 1 = cc in absurd (omega arith)
-told-unsupported K k true false e = let z : _≡_ {A = ℕ} 1 5 = cc in absurd (omega arith)
-told-unsupported K k false u e = (refl, cc)
-
-told-unfit : (K : ℕ) (t u : Bool) → refuses 5 [] ≡ tested K t u → (t ≡ true) × (u ≡ false)
-told-unfit K true true e = let z : _≡_ {A = ℕ} 0 1 = cc in absurd (omega arith)
-told-unfit K true false e = (refl, refl)
-told-unfit K false u e = let z : _≡_ {A = ℕ} 5 1 = cc in absurd (omega arith)
-
-told-fit : (K : ℕ) (t u : Bool) → gives tt ≡ tested K t u → (t ≡ true) × (u ≡ true)
-told-fit K true true e = (refl, refl)
-told-fit K true false e = let z : _≡_ {A = ℕ} 0 1 = cc in absurd (omega arith)
-told-fit K false u e = let z : _≡_ {A = ℕ} 0 1 = cc in absurd (omega arith)
-
--- ---- each way to end
 
 -- An answer that changes nothing.
 stays : {r : ContractAnswer} {labels starts lengths marks : List ℕ}
@@ -59,18 +37,18 @@ module _ (K cutoff n : ℕ) (keys counts labels starts lengths marks : List ℕ)
       → Contracts (answers.UnsupportedK k) labels starts lengths marks (whole K cutoff n keys counts labels starts lengths marks)
   unfolding contract
   unsupported {k} e =
-      let q = told-unsupported K k (okK K) (fit K n keys counts) (sym (ap fitAnswer e) ∙ t) in
+      let q = told-unsupported K n keys counts t e in
       rw (q .0, q .1) stays
 
   pub unfit : r ≡ Unfit → Contracts answers.Unfit labels starts lengths marks (whole K cutoff n keys counts labels starts lengths marks)
   unfolding contract
   unfit e =
-      let q = told-unfit K (okK K) (fit K n keys counts) (sym (ap fitAnswer e) ∙ t) in
+      let q = told-unfit K n keys counts t e in
       rw (q .0, q .1) stays
 
   module _ (e : r ≡ Fit) where
     ok : (okK K ≡ true) × (fit K n keys counts ≡ true)
-    ok = told-fit K (okK K) (fit K n keys counts) (sym (ap fitAnswer e) ∙ t)
+    ok = told-fit K n keys counts t e
 
     pub few-marks : length marks < n
         → Contracts answers.FewMarks labels starts lengths marks (whole K cutoff n keys counts labels starts lengths marks)

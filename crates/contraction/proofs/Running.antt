@@ -7,12 +7,10 @@ use Prim.Native.Nat.{ℕ, zero, suc, _+_, _*_, _≤_}
 use native.Mathlib.Nat.{mul-le-mul}
 use native.Mathlib.Numerals.{add-one}
 use native.Mathlib.Omega.{arith}
-use lib.Dec.{leb}
 use lib.ListN.{length, getD, length-append}
-use borrow.Author.Tests.{leb-true}
 use Rattle.lemmas.proofs.Numbers.{lt-or-ge}
-use Rattle.lemmas.proofs.Tests.{choose, both}
-use Rattle.kmer.specs.Kmer.{okK}
+use Rattle.lemmas.proofs.Tests.{choose}
+use Rattle.kmer.proofs.Bounds.{ok-bounds}
 use Rattle.state.specs.declared.Side.the-variants.{Front, Back}
 use Rattle.graph.specs.Walks.{Ends, walk, visited, isolated}
 use Rattle.graph.specs.Labels.{Run, labelOf, extract, run}
@@ -21,10 +19,6 @@ use Rattle.laws.proofs.Room.{run-room}
 use Rattle.contraction.specs.Marks.{Ready, ends, visits, keysFor, extractIn, labelIn, runIn}
 use Rattle.contraction.proofs.Marking.{keys-marks, ends-length}
 use Rattle.contraction.proofs.Appending.{end-to-end-snoc}
-
--- K is at most 63, and at least 1.
-pub ok-bounds : (K : ℕ) → okK K ≡ true → (1 ≤ K) × (K ≤ 63)
-ok-bounds K e = let t = both (leb 1 K) (leb K 63) e in (leb-true 1 K (t .0), leb-true K 63 (t .1))
 
 -- No label is lost between two runs.
 pub record Grown (r r₂ : Run) : Type 0 where

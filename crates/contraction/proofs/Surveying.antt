@@ -1,6 +1,6 @@
 -- All anchors, one after the other: which are skipped, and what each label adds to the run. Assumes nothing.
 use mathlib.Core.Path.{_≡_, refl, sym, ap, ap₂, _∙_}
-use mathlib.Core.Bool.{Bool, true, false, cond, _||_}
+use mathlib.Core.Bool.{Bool, true, false, cond, _||_, or-assoc}
 use mathlib.Core.List.{List, [], _∷_, _++_}
 use Prim.Native.Nat.{ℕ, suc, _+_, _*_, _/_, _≤_, _<_}
 use native.Mathlib.Omega.{arith}
@@ -30,10 +30,6 @@ module _ (ms : List ℕ) (a : ℕ) (h : a < length ms) where
     pub skipped-back : e ≡ 5 → {d : ℕ} → d ≡ endIn (getD ms a 0) Back → eqb d 5 ≡ (visited (visits ms) a || isolated (ends ms) a)
     skipped-back i {d} p =
         rw (visited-is ms a h, ne-eqb (getD ms a 0 / 64) 1 fresh, edge-is ms a h Front, sym q, i, edge-is ms a h Back, sym p)
-
-or-assoc : (t u v : Bool) → (t || u || v) ≡ (t || (u || v))
-or-assoc true u v = refl
-or-assoc false u v = refl
 
 -- A run that has marks and nothing else.
 abbrev from : List ℕ → Run

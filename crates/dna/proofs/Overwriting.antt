@@ -1,10 +1,11 @@
 -- A text written over the first cells of a slice. Assumes nothing.
 use mathlib.Core.Path.{_≡_, sym, ap, _∙_}
-use mathlib.Core.List.{List, _++_, append-assoc, append-nil}
-use Prim.Native.Nat.{ℕ, _+_, _-_, _≤_}
+use mathlib.Core.List.{List, [], _∷_, _++_, append-assoc, append-nil}
+use Prim.Native.Nat.{ℕ, _+_, _-_, _≤_, _<_}
+use native.Mathlib.Numerals.{add-one}
 use native.Mathlib.Omega.{arith}
-use lib.ListN.{length, take, drop, take-append-drop, drop-of-length-le, length-append, length-drop}
-use lib.Seq.{length-take-le, drop-append-le, drop-append-add, drop-drop}
+use lib.ListN.{length, take, drop, set, take-append-drop, drop-of-length-le, length-append, length-drop}
+use lib.Seq.{length-take-le, drop-append-le, drop-append-add, drop-drop, drop-cons, set-append-seam, append-snoc}
 use Rattle.dna.specs.Text.{over}
 
 -- The slice keeps its length.
@@ -31,3 +32,10 @@ over-first text slice n h l =
     ∙ ap (λ (z : List ℕ). text ++ z)
     (sym (drop-append-le (length text) (take n slice) (drop n slice) (omega (arith, length-take-le n slice l)))
     ∙ ap (drop (length text)) (take-append-drop n slice))
+
+-- One cell behind the text.
+pub over-one : (text slice : List ℕ) {slice′ next : List ℕ} (n v : ℕ) → slice′ ≡ over text slice → n ≡ length text → n < length slice
+    → next ≡ text ++ (v ∷ []) → set slice′ n v ≡ over next slice
+over-one text slice n v e f h q =
+    let l : length text < length slice = omega arith in
+    rw (e, f, q, drop-cons slice (length text) 0 l, set-append-seam, length-append, add-one, append-snoc)

@@ -7,7 +7,8 @@ use native.Mathlib.Omega.{arith}
 use borrow.Rule.Slice.PartMut.{midOf, putMid}
 use lib.ListN.{length, set}
 use Rattle.dna.specs.Text.{over}
-use Rattle.fasta.proofs.Over.{over-one, over-rest}
+use Rattle.dna.proofs.Overwriting.{over-one}
+use Rattle.fasta.proofs.Over.{over-rest}
 
 -- The first three cells stored.
 abbrev pub headed : ℕ → ℕ → ℕ → List ℕ → List ℕ
@@ -27,4 +28,4 @@ framed x y z label slice part room p last at e =
     let labelled : putMid 3 (length (headed x y z slice) - 3) (headed x y z slice) part ≡ over (x ∷ y ∷ z ∷ label) slice =
     over-rest (x ∷ y ∷ z ∷ []) label slice (headed x y z slice) part 3 refl (omega arith) (headed-over x y z slice (omega arith)) p in
     let n : at ≡ length (x ∷ y ∷ z ∷ label) = omega arith in
-    rw (labelled, n) (over-one (x ∷ y ∷ z ∷ label) slice last (omega arith))
+    over-one (x ∷ y ∷ z ∷ label) slice at last labelled n (omega arith) refl

@@ -1,13 +1,12 @@
 -- Texts written one behind the other make one text. Assumes nothing.
 use mathlib.Core.Path.{_≡_, ap, _∙_}
-use mathlib.Core.List.{List, [], _∷_, _++_, append-assoc, append-nil}
-use Prim.Native.Nat.{ℕ, _+_, _-_, _≤_, _<_}
-use native.Mathlib.Numerals.{add-one}
+use mathlib.Core.List.{List, [], _++_, append-assoc, append-nil}
+use Prim.Native.Nat.{ℕ, _+_, _-_, _≤_}
 use native.Mathlib.Omega.{arith}
 use borrow.Rule.Slice.PartAt.{part-to-end}
 use borrow.Rule.Slice.PartMut.{midOf, postOf, putMid, post-is}
-use lib.ListN.{length, take, drop, set, length-append}
-use lib.Seq.{drop-length, take-append-seam, drop-append-seam, drop-drop, drop-cons, set-append-seam, append-snoc}
+use lib.ListN.{length, take, drop, length-append}
+use lib.Seq.{drop-length, take-append-seam, drop-append-seam, drop-drop}
 use Rattle.dna.specs.Text.{over}
 use Rattle.dna.proofs.Overwriting.{length-over}
 
@@ -17,10 +16,6 @@ module _ (text slice : List ℕ) where
       → take (length text) (over text slice) ++ over more (drop (length text) (over text slice)) ≡ over (text ++ more) slice
   over-more more =
       simp (take-append-seam text (drop (length text) slice), drop-append-seam text (drop (length text) slice), drop-drop, append-assoc, length-append)
-
-  -- One byte behind the text.
-  pub over-one : (v : ℕ) → length text < length slice → set (over text slice) (length text) v ≡ over (text ++ (v ∷ [])) slice
-  over-one v h = rw (drop-cons slice (length text) 0 h, set-append-seam, length-append, add-one, append-snoc)
 
 -- A second text behind the first, where the rest of the slice was lent for it: `whole` is the slice with the first text, and `part`
 -- what the rest came back as.

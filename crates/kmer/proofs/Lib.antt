@@ -4,6 +4,7 @@ pub mod Turned
 pub mod Swaps
 pub mod Halves
 pub mod Telling
+pub mod Bounds
 pub mod Verdicts
 pub mod Orders
 pub mod Places

@@ -4,9 +4,8 @@ use mathlib.Core.Bool.{Bool, true, false, cond}
 use mathlib.Core.List.{List, [], _∷_}
 use Prim.Native.Nat.{ℕ, _^_, _<_, _≤_}
 use native.Mathlib.Omega.{arith}
-use lib.Dec.{ltb, leb}
-use borrow.Author.Tests.{ltb-true, leb-true}
-use Rattle.lemmas.proofs.Tests.{both}
+use lib.Dec.{ltb}
+use borrow.Author.Tests.{ltb-true}
 use Rattle.dna.specs.Answer.{Answer, gives, refuses}
 use Rattle.kmer.specs.Kmer.{okK}
 use Rattle.kmer.specs.Calls.{onKmer, below}
@@ -18,6 +17,7 @@ use Rattle.kmer.specs.declared.KmerAnswer.{KmerAnswer}
 use Rattle.kmer.specs.declared.KmerAnswer.the-variants.{Done, Refused}
 use Rattle.kmer.specs.declared.Answered.{Answered}
 use Rattle.kmer.proofs.Wide.{joined-of}
+use Rattle.kmer.proofs.Bounds.{ok-bounds}
 
 -- An answer, where the tests before it were passed.
 through : {A : Type 0} → Answer (Unit {0}) → Answer A → Answer A
@@ -99,10 +99,10 @@ module _ (K x bound number : ℕ) (v : KmerAnswer) (told : saysThen v done ≡ o
   pub passed : v ≡ Done → Passed K x bound number
   passed w =
       let t = tests-passed K (okK K) (ltb x (4 ^ K)) (ltb number bound) (gives-call done w) in
-      let k = both (leb 1 K) (leb K 63) (t .0) in
+      let k = ok-bounds K (t .0) in
       record {
-        least = leb-true 1 K (k .0);
-        most = leb-true K 63 (k .1);
+        least = k .0;
+        most = k .1;
         fits = ltb-true x (4 ^ K) (t .1);
         under = ltb-true number bound (t .2);
       }

@@ -1,6 +1,6 @@
 -- The tests of a record's mark and length, byte by byte in the file. Assumes nothing.
-use mathlib.Core.Path.{_≡_, refl, sym, _∙_}
-use mathlib.Core.Bool.{Bool, true, false, _&&_}
+use mathlib.Core.Path.{_≡_, sym, _∙_}
+use mathlib.Core.Bool.{true, false, _&&_, and-true, and-false}
 use mathlib.Core.List.{List}
 use mathlib.Core.Logic.{⊎-elim}
 use Prim.Native.Nat.{ℕ, _+_, _-_, _≤_, _<_}
@@ -13,14 +13,6 @@ use Rattle.dna.specs.Text.{bytes}
 use Rattle.lemmas.proofs.Numbers.{lt-or-ge}
 use Rattle.lemmas.proofs.Tests.{both}
 use Rattle.label_file.specs.LabelFile.{marked, two, headed, labelled}
-
-pub and-false : (t : Bool) → t && false ≡ false
-and-false true = refl
-and-false false = refl
-
-and-true : (t : Bool) → t && true ≡ t
-and-true true = refl
-and-true false = refl
 
 same-room : (n at room : ℕ) → at ≤ room → leb (at + 4 + n) room ≡ leb (4 + n) (room - at)
 same-room n at room h = ⊎-elim none all (lt-or-ge room (at + 4 + n))

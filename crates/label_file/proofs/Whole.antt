@@ -1,13 +1,13 @@
 -- The whole of it: what adding, contraction and the form of the file make of the answer and the buffers. Assumes nothing.
 use mathlib.Core.Path.{_≡_}
-use mathlib.Core.Bool.{false}
+use mathlib.Core.Bool.{false, and-false}
 use mathlib.Core.List.{List}
 use Prim.Native.Nat.{ℕ, _+_, _*_, _≤_, _<_}
 use borrow.Author.Tests.{lt-leb}
 use lib.ListN.{length}
 use Rattle.dna.specs.Answer.{fill}
 use Rattle.kmer.specs.Kmer.{okK}
-use Rattle.table.proofs.Verdict.{ok}
+use Rattle.kmer.proofs.Bounds.{bounds-ok}
 use Rattle.label_file.specs.LabelFile.{damaged, two, kIn, fileOf, labelsOf}
 use Rattle.label_file.specs.Output.{Buffers, withTable, refusal, listed, takeFrom, listAll, output}
 use Rattle.label_file.specs.Says.{Fills, Lists, Sound, Takes, takingSays, formSays}
@@ -16,7 +16,6 @@ use Rattle.label_file.specs.declared.Checked.{Checked}
 use Rattle.label_file.specs.declared.Checked.the-variants as checked
 use Rattle.label_file.specs.declared.Taking.{Taking}
 use Rattle.label_file.specs.declared.Taking.the-variants.{Stored, Refused}
-use Rattle.label_file.proofs.Marks.{and-false}
 use Rattle.label_file.proofs.Unread.{unread-all}
 use Rattle.label_file.proofs.Listing.{withAfter, contracted, lists-refused}
 
@@ -59,7 +58,7 @@ module _ (file : List ℕ) (b : Buffers) {y : ListAnswer} where
   pub output-sound : {b′ : Buffers} → Sound file → 1 ≤ kIn file → kIn file ≤ 63 → (low high : ℕ) → low ≡ two file 3 → high ≡ two file 5
       → Lists y b′ (listAll (kIn file) (low + 65536 * high) (labelsOf (fileOf file)) b) → Lists y b′ (output b file)
   unfolding output
-  output-sound s one most low high e f l = rw (s, output, ok (kIn file) one most) (rw (e, f) at l)
+  output-sound s one most low high e f l = rw (s, output, bounds-ok (kIn file) one most) (rw (e, f) at l)
 
 -- What the form says of a file that has no bad record.
 pub says-sound : (file : List ℕ) (x : Checked) → formSays x file → x ≡ checked.Sound → Sound file

@@ -1,24 +1,22 @@
 -- Contraction called again over what it left gives the same answer and leaves the same. Assumes nothing.
-use mathlib.Core.Path.{_≡_, refl, sym, ap, _∙_}
+use mathlib.Core.Path.{_≡_, _∙_}
 use mathlib.Core.Bool.{Bool, true, false, not, _||_}
-use mathlib.Core.List.{List, [], _∷_, map}
+use mathlib.Core.List.{List, [], map}
 use Prim.Native.Nat.{ℕ, _≤_}
 use native.Mathlib.Omega.{arith}
-use borrow.Author.Tests.{ltb-false}
+use borrow.Author.Tests.{ltb-false, not-false}
 use lib.Dec.{ltb}
 use lib.ListN.{length, replicate, length-map, length-replicate}
-use Rattle.lemmas.proofs.Tests.{choose}
+use Rattle.lemmas.proofs.Tests.{choose, or-first, or-second}
 use Rattle.dna.specs.Text.{over}
 use Rattle.dna.specs.Answer.{refuses}
 use Rattle.dna.proofs.Overwriting.{length-over, over-over}
 use Rattle.kmer.specs.Kmer.{okK}
 use Rattle.state.specs.Counted.{Kind}
 use Rattle.graph.specs.Table.{tableOf, keysOf, fit}
-use Rattle.graph.specs.Walks.{Ends}
 use Rattle.graph.specs.Labels.{Run, run}
 use Rattle.graph.specs.Contraction.{Entry, Contracted, entries, sorted, endToEnd, endsIn, written, finish, contract}
 use Rattle.graph.proofs.Accepted.{fit-length}
-use Rattle.laws.proofs.Tours.{or-first, or-second}
 use Rattle.laws.proofs.Runs.{run-toured}
 use Rattle.laws.proofs.Indexed.{sorted-length}
 
@@ -82,10 +80,6 @@ module _ (κ : Kind) (K cutoff n : ℕ) (keys counts : List ℕ) where
           let m = run-toured K (keysOf n keys) (endsIn κ cutoff (tableOf n keys counts)) n (omega (arith, k)) .long in
           let lm : length (over (all .marks) marks) ≡ length marks = length-over (all .marks) marks (omega (arith, m, k, room)) in
           rw (ok, fits, lm, marked, h, lb, lt, lz, l, twice text labels, twice ss starts, twice zs lengths, twice (all .marks) marks)
-        where
-          not-false : (b : Bool) → not b ≡ false → b ≡ true
-          not-false true e = refl
-          not-false false e = sym e
 
       after-finish : Same (finish κ K cutoff n keys counts labels starts lengths marks all)
       unfolding finish

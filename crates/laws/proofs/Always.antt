@@ -27,7 +27,8 @@ use Rattle.laws.proofs.Plain.{lesser-cases, lesser-least}
 use Rattle.laws.proofs.Indexed.{sorted-occurrences, in-order-each, in-order-ascend}
 use Rattle.laws.proofs.Outward.{trail-outward}
 
-paired-each : {A B : Type 0} {R : A → B → Type 0} {P : A → Type 0} → ((x : A) (y : B) → R x y → P x) → {xs : List A} {ys : List B} → Paired R xs ys → Each P xs
+paired-each : {A B : Type 0} {R : A → B → Type 0} {P : A → Type 0} → ((x : A) (y : B) → R x y → P x)
+    → {xs : List A} {ys : List B} → Paired R xs ys → Each P xs
 paired-each f nothing = none
 paired-each f (pair {x = x} {y = y} r p) = more (f x y r) (paired-each f p)
 
@@ -49,7 +50,8 @@ module _ (K : ℕ) (ks : List ℕ) (es : List Ends) (one : 1 ≤ K) (fit : fitFr
       (lesser-least (reading K ks p) (reading-plain K ks es g one fit known))
 
   taken-outward : {marks after l : List ℕ} {p : Piece} → Taken K ks es marks p after l → p .anchor < length ks
-      → Outward K ks es Back (getD ks (p .anchor) 0 ∷ kmers K ks (p .back)) × Outward K ks es Front (rc K (getD ks (p .anchor) 0) ∷ kmers K ks (p .front))
+      → Outward K ks es Back (getD ks (p .anchor) 0 ∷ kmers K ks (p .back))
+      × Outward K ks es Front (rc K (getD ks (p .anchor) 0) ∷ kmers K ks (p .front))
   taken-outward (round t c e) h = (trail-outward K ks es fit known t h, stays)
   taken-outward (straight t c t₂ e) h = (trail-outward K ks es fit known t h, trail-outward K ks es fit known t₂ h)
 
@@ -71,6 +73,10 @@ module _ (K : ℕ) (ks : List ℕ) (es : List Ends) (one : 1 ≤ K) (fit : fitFr
         leftward = o .1;
       }
 
+  -- No label is above its reverse complement.
+  pub run-least : (a : ℕ) → a ≤ length ks → Each (λ (m : List ℕ). before (reverseComplement m) m ≡ false) (run K ks es a .labels)
+  run-least a h = paired-each (λ m p g. label-least g) (run-labelled K ks es a h)
+
   -- Every label holds a k-mer that is not isolated.
   pub run-live : (a : ℕ) → a ≤ length ks → Each (HoldsLive K ks es) (run K ks es a .labels)
   run-live a h =
@@ -87,7 +93,8 @@ module _ (K : ℕ) (ks : List ℕ) (es : List Ends) (one : 1 ≤ K) (fit : fitFr
       record {
         exactly-once = λ v h i. sorted-occurrences K (getD ks v 0) 0 ls ∙ exactly-once K ks es one fit known v h i;
         never-twice = λ x. omega (arith, sorted-occurrences K x 0 ls, never-twice K ks es one fit known (length ks) l x);
-        ascend = in-order-ascend K ls (never-twice K ks es one fit known (length ks) l) (paired-each (λ m p g. (getD ks (p .anchor) 0, anchor-occurs g)) r);
-        none-above = in-order-each (λ (m : List ℕ). before (reverseComplement m) m ≡ false) (paired-each (λ m p g. label-least g) r);
+        ascend = in-order-ascend K ls (never-twice K ks es one fit known (length ks) l)
+            (paired-each (λ m p g. (getD ks (p .anchor) 0, anchor-occurs g)) r);
+        none-above = in-order-each (λ (m : List ℕ). before (reverseComplement m) m ≡ false) (run-least (length ks) l);
         outward = in-order-each (FromSmallest K ks es) (paired-each (λ m p g. from-smallest g) r);
       }

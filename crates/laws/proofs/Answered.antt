@@ -125,7 +125,8 @@ module _ (K : ℕ) (label : List ℕ) where
 noted-more : {f h : ℕ → ℕ → ℕ} {x : ℕ} → ((j : ℕ) → f x j ≤ h x j) → Noted f x → Noted h x
 noted-more le m = record { side = m .side; base = m .base; below = m .below; counted = omega (arith, m .counted, le (slotOf (m .side) (m .base))) }
 
-labels-answered : (K : ℕ) (ls : List (List ℕ)) → AllReadable K ls → (x j : ℕ) → 0 < sightedIn sameCanonical K ls x j → Answered K (sightedIn sameCanonical K ls) x j
+labels-answered : (K : ℕ) (ls : List (List ℕ)) → AllReadable K ls → (x j : ℕ) → 0 < sightedIn sameCanonical K ls x j
+    → Answered K (sightedIn sameCanonical K ls) x j
 unfolding sightedIn
 labels-answered K [] r x j h s b lt e ne = absurd (omega arith)
 labels-answered K (l ∷ ls) r x j h s b lt e ne = ⊎-elim

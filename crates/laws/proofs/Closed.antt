@@ -98,7 +98,8 @@ abbrev pub AllReadable : ℕ → List (List ℕ) → Type 0
 AllReadable K [] = Unit {0}
 AllReadable K (l ∷ ls) = Readable K l × AllReadable K ls
 
-pub grown-readable : {κ : Kind} {rule : Rule} {K : ℕ} {ls : List (List ℕ)} {n : ℕ} {keys counts : List ℕ} → Grown κ rule K ls n keys counts → AllReadable K ls
+pub grown-readable : {κ : Kind} {rule : Rule} {K : ℕ} {ls : List (List ℕ)} {n : ℕ} {keys counts : List ℕ}
+    → Grown κ rule K ls n keys counts → AllReadable K ls
 grown-readable (fresh keys counts) = tt
 grown-readable {κ} {rule} {K} (accepts {n = n} {keys = keys} {counts = counts} g l e h) =
     (accepted κ rule K n keys counts l e h .reads, grown-readable g)
@@ -112,7 +113,8 @@ labels-ahead rule K (l ∷ ls) r x j h s b lt e =
     (λ z. rw (labels-ahead rule K ls (r .1) x j z s b lt e))
     (λ z.
     let t : 0 < times (sightings rule K l (windows K l)) x j = omega arith in
-    rw (each-hit (Ahead K (shown rule K l)) (sightings rule K l (windows K l)) (label-ahead rule K l (r .0)) x j t s b lt e) (or-true (seenIn K ls y)))
+    rw (each-hit (Ahead K (shown rule K l)) (sightings rule K l (windows K l)) (label-ahead rule K l (r .0)) x j t s b lt e)
+    (or-true (seenIn K ls y)))
     (lt-or-ge 0 (sightedIn rule K ls x j))
 
 -- ---- a grown table

@@ -8,7 +8,7 @@ use native.Mathlib.Omega.{arith}
 use lib.Dec.{eqb}
 use lib.ListN.{length, getD, set, length-set}
 use borrow.Author.Tests.{eqb-false, ne-eqb}
-use Rattle.lemmas.proofs.Tests.{never}
+use Rattle.lemmas.proofs.Tests.{never, or-second}
 use Rattle.state.specs.declared.Side.{Side}
 use Rattle.state.specs.declared.Side.the-variants.{Front, Back}
 use Rattle.graph.specs.declared.Step.{Step}
@@ -19,7 +19,7 @@ use Rattle.laws.specs.Tours.{Piece, inPiece, inPieces, Taken, Taken.roun
 use Rattle.laws.proofs.Steps.{came, came-lt}
 use Rattle.laws.proofs.Fuel.{trail-long}
 use Rattle.laws.proofs.Marks.{set-same}
-use Rattle.laws.proofs.Tours.{in-append, or-second, tour-toured}
+use Rattle.laws.proofs.Tours.{in-append, tour-toured}
 use Rattle.laws.proofs.Runs.{run-tour, run-toured}
 use Rattle.laws.proofs.Leads.{Leads, came-leads}
 
@@ -40,7 +40,8 @@ module _ (K : ℕ) (ks : List ℕ) (es : List Ends) where
         let c = came K ks es a start marks v s e in
         let lu = came-lt K ks es c in
         let differ : v ≡ u → ⊥ = λ q. eqb-false (getD marks u 0) 1 (c .fresh) (ap (λ (j : ℕ). getD marks j 0) (sym q) ∙ o) in
-        rw (apart u (live v s u _ lv lu (came-leads K ks es c) differ)) (omega (arith, trail-passes a start t (length-set marks u 1 ∙ l) lu (set-same marks u u (omega arith) refl)))
+        rw (apart u (live v s u _ lv lu (came-leads K ks es c) differ))
+        (omega (arith, trail-passes a start t (length-set marks u 1 ∙ l) lu (set-same marks u u (omega arith) refl)))
 
     taken-passes : {marks after l : List ℕ} {p : Piece} → Taken K ks es marks p after l → p .anchor < length ks
         → length marks ≡ length ks → isolated es (p .anchor) ≡ false → inPiece i p ≡ 0

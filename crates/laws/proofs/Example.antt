@@ -30,7 +30,8 @@ unfolding openLetters openKmer
 p1-joins = record { there = refl; back = refl }
 
 -- C leads from CCC's Back to its own Front; the one counter is 1, the other 0.
-pub p1-loop : Joins 3 (5 ∷ 21 ∷ []) 1 Back 1 1 Front 1 × (count fourBits 0x00100001 (slotOf Back 1) ≡ 1) × (count fourBits 0x00100001 (slotOf Front 1) ≡ 0)
+pub p1-loop : Joins 3 (5 ∷ 21 ∷ []) 1 Back 1 1 Front 1 × (count fourBits 0x00100001 (slotOf Back 1) ≡ 1)
+    × (count fourBits 0x00100001 (slotOf Front 1) ≡ 0)
 unfolding openLetters openKmer openCounted
 p1-loop = (record { there = refl; back = refl }, refl, refl)
 
@@ -42,7 +43,8 @@ p4-grown =
     (record { edges = 1; stored = 2 }) refl
 
 -- T leads from CA's Back to AT's Front; the one counter is 2, the other 1.
-pub p4-joins : Joins 2 (3 ∷ 4 ∷ []) 1 Back 3 0 Front 1 × (count fourBits 0x20000000 (slotOf Back 3) ≡ 2) × (count fourBits 0x01000010 (slotOf Front 1) ≡ 1)
+pub p4-joins : Joins 2 (3 ∷ 4 ∷ []) 1 Back 3 0 Front 1 × (count fourBits 0x20000000 (slotOf Back 3) ≡ 2)
+    × (count fourBits 0x01000010 (slotOf Front 1) ≡ 1)
 unfolding openLetters openKmer openCounted
 p4-joins = (record { there = refl; back = refl }, refl, refl)
 

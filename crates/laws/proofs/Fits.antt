@@ -7,11 +7,11 @@ use Prim.Native.Nat.{ℕ, _*_, _≤_, _<_}
 use native.Mathlib.Omega.{arith}
 use lib.Dec.{leb}
 use lib.ListN.{length, getD}
-use borrow.Author.Tests.{leb-true}
 use Rattle.lemmas.proofs.Tests.{both}
 use Rattle.kmer.specs.Kmer.{okK}
+use Rattle.kmer.proofs.Bounds.{ok-bounds}
 use Rattle.state.specs.declared.Side.{Side}
-use Rattle.state.specs.Counted.{Kind}
+use Rattle.state.specs.Counted.{Kind, edgeAt}
 use Rattle.state.proofs.Edges.{edge-le}
 use Rattle.graph.specs.Table.{tableOf, keysOf, fitFrom, capacity, fit}
 use Rattle.graph.specs.Walks.{Ends, edge}
@@ -38,15 +38,17 @@ module _ (κ : Kind) (K cutoff n : ℕ) (keys counts : List ℕ) (f : fit K n ke
   size : length ks ≡ n
   size = fit-length K n keys counts f
 
+  -- A vertex has the edges that its counters say.
+  pub edge-at : (v : ℕ) (s : Side) → v < length ks → edge es v s ≡ edgeAt κ cutoff (getD counts v 0) s
+  edge-at v s h = edge-is κ cutoff n keys counts v s (omega (arith, size)) (omega (arith, fit-room K n keys counts f))
+
   -- Every edge is E, a base or N.
   pub edges-known : (v : ℕ) (s : Side) → v < length ks → edge es v s ≤ 5
-  edges-known v s h =
-      rw (edge-is κ cutoff n keys counts v s (omega (arith, size)) (omega (arith, fit-room K n keys counts f)))
-      (edge-le κ cutoff (getD counts v 0) s)
+  edges-known v s h = rw (edge-at v s h) (edge-le κ cutoff (getD counts v 0) s)
 
   module _ (ok : okK K ≡ true) where
     one : 1 ≤ K
-    one = leb-true 1 K (both (leb 1 K) (leb K 63) ok .0)
+    one = ok-bounds K ok .0
 
     pub fit-always : Always K ks es (inOrder (run K ks es n))
     fit-always = subst (λ (m : ℕ). Always K ks es (inOrder (run K ks es m))) size (always K ks es one keys-fit edges-known)

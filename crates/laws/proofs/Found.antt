@@ -20,7 +20,8 @@ use Rattle.graph.specs.declared.Step.{Step}
 use Rattle.graph.specs.declared.Step.the-variants.{Next, Stop, Missing}
 use Rattle.graph.specs.Table.{tableOf, keysOf, rank, stored, fit}
 use Rattle.graph.specs.Sightings.{Rule}
-use Rattle.graph.specs.Walks.{Ends, endsOf, endOn, edge, seen, leaving, entrance, visited, isolated, missing, closed, enter, arrive, step, follow, walk}
+use Rattle.graph.specs.Walks.{Ends, endsOf, endOn, edge, seen, leaving, entrance}
+use Rattle.graph.specs.Walks.{visited, isolated, missing, closed, enter, arrive, step, follow, walk}
 use Rattle.graph.specs.Labels.{Run, extract, run}
 use Rattle.graph.specs.Contraction.{Contracted, refused, endToEnd, endsIn, finish, written, contract}
 use Rattle.graph.proofs.Rank.{stored-lt}
@@ -131,10 +132,12 @@ module _ {κ : Kind} {rule : Rule} {K : ℕ} {ls : List (List ℕ)} {n : ℕ} {k
       known v s h = rw (is v s h) (edge-le κ cutoff (getD counts v 0) s)
 
       leads : (v : ℕ) (s : Side) → v < length (keysOf n keys) → edge (endsIn κ cutoff (tableOf n keys counts)) v s < 4
-          → stored (keysOf n keys) (canon K (forward K (seen K (keysOf n keys) v s) (leaving s (edge (endsIn κ cutoff (tableOf n keys counts)) v s)))) ≡ true
+          → stored (keysOf n keys) (canon K (forward K (seen K (keysOf n keys) v s) (leaving s (edge (endsIn κ cutoff (tableOf n keys counts)) v s))))
+          ≡ true
       leads v s h l =
           let e : edgeAt κ cutoff (getD counts v 0) s < 4 = rw (is v s h) at l in
-          rw (is v s h) (grown-closed g v s (edgeAt κ cutoff (getD counts v 0) s) (omega (arith, size)) e (edge-counted κ cutoff (getD counts v 0) s e))
+          rw (is v s h) (grown-closed g v s (edgeAt κ cutoff (getD counts v 0) s) (omega (arith, size)) e
+          (edge-counted κ cutoff (getD counts v 0) s e))
 
   -- Contracting a grown table is never refused with 8.
   module _ (labels starts lengths marks : List ℕ) where
@@ -156,5 +159,6 @@ module _ {κ : Kind} {rule : Rule} {K : ℕ} {ls : List (List ℕ)} {n : ℕ} {k
         (λ _. choose Not8 (not (fit K n keys counts)) (λ _. other 5 [] marks (λ e. omega arith))
         (λ _. choose Not8 (ltb (length marks) n) (λ _. other 7 [] marks (λ e. omega arith))
         (λ _. choose Not8 (r .missed) (λ m. never (r .missed) m grown-finds)
-        (λ _. choose Not8 (ltb (length labels) (length (endToEnd (r .labels))) || ltb (length starts) (length (r .labels)) || ltb (length lengths) (length (r .labels)))
+        (λ _. choose Not8 (ltb (length labels) (length (endToEnd (r .labels))) || ltb (length starts) (length (r .labels))
+        || ltb (length lengths) (length (r .labels)))
         (λ _. other 9 [] (over (replicate n 0) marks) (λ e. omega arith)) (λ _. written-not r)))))

@@ -71,11 +71,13 @@ module _ (K : ℕ) (ks : List ℕ) (es : List Ends) (a : ℕ) (start : Side) whe
       let n : length m ≡ length ks = simp length-set l in
       follow-went (length ks) m a start (step K ks es a start m a start) refl n (omega (arith, unseen-le m))
 
-  trail-ends : {marks after : List ℕ} {v : ℕ} {s : Side} {ps : List Place} {st : Step} → Trail K ks es a start marks v s ps after st → isNext st ≡ false
+  trail-ends : {marks after : List ℕ} {v : ℕ} {s : Side} {ps : List Place} {st : Step}
+      → Trail K ks es a start marks v s ps after st → isNext st ≡ false
   trail-ends (ends e h) = h
   trail-ends (goes e t) = trail-ends t
 
-  pub trail-long : {marks after : List ℕ} {v : ℕ} {s : Side} {ps : List Place} {st : Step} → Trail K ks es a start marks v s ps after st → length after ≡ length marks
+  pub trail-long : {marks after : List ℕ} {v : ℕ} {s : Side} {ps : List Place} {st : Step}
+      → Trail K ks es a start marks v s ps after st → length after ≡ length marks
   trail-long (ends e h) = refl
   trail-long (goes {marks = marks} {u = u} e t) = trail-long t ∙ length-set marks u 1
 

@@ -62,7 +62,7 @@ module _ (P : Entry → Type 0) where
 
 -- What holds of each label holds of each in the order of the index.
 module _ (P : List ℕ → Type 0) where
-  entries-each : (at : ℕ) {ls : List (List ℕ)} → Each P ls → Each (λ (e : Entry). P (e .label)) (entries at ls)
+  pub entries-each : (at : ℕ) {ls : List (List ℕ)} → Each P ls → Each (λ (e : Entry). P (e .label)) (entries at ls)
   unfolding entries
   entries-each at none = none
   entries-each at (more {x = l} p q) = more p (entries-each (at + length l) q)

@@ -24,13 +24,12 @@ use Rattle.graph.specs.Labels.{run}
 use Rattle.graph.specs.Contraction.{endsIn}
 use Rattle.graph.proofs.Rank.{stored-at}
 use Rattle.graph.proofs.Lookup.{key-inj}
-use Rattle.graph.proofs.Accepted.{fit-room, fit-length, fit-sound, accepted}
+use Rattle.graph.proofs.Accepted.{fit-length, fit-sound, accepted}
 use Rattle.laws.specs.Grown.{Grown, fresh, accepts, Joins}
 use Rattle.laws.specs.Windows.{occurrences}
 use Rattle.laws.proofs.Keys.{grown-fit}
 use Rattle.laws.proofs.Edges.{other-end, grown-symmetric}
-use Rattle.laws.proofs.Found.{edge-is}
-use Rattle.laws.proofs.Fits.{edges-known, fit-marks}
+use Rattle.laws.proofs.Fits.{edge-at, edges-known, fit-marks}
 use Rattle.laws.proofs.Steps.{ahead}
 use Rattle.laws.proofs.Leads.{Leads}
 use Rattle.laws.proofs.Answered.{grown-answered}
@@ -51,7 +50,8 @@ edge-some κ cutoff w s c h k e = no-member (retained κ cutoff w s 4 0) (edge-n
     no-member (b ∷ l) q x m = omega arith
 
 -- A table that stores something was grown with a K that is not refused.
-grown-ok : {κ : Kind} {rule : Rule} {K : ℕ} {ls : List (List ℕ)} {n : ℕ} {keys counts : List ℕ} → Grown κ rule K ls n keys counts → 0 < n → okK K ≡ true
+grown-ok : {κ : Kind} {rule : Rule} {K : ℕ} {ls : List (List ℕ)} {n : ℕ} {keys counts : List ℕ}
+    → Grown κ rule K ls n keys counts → 0 < n → okK K ≡ true
 grown-ok (fresh keys counts) h = absurd (omega arith)
 grown-ok {κ} {rule} {K} (accepts {n = n} {keys = keys} {counts = counts} g l e q) h = accepted κ rule K n keys counts l e q .ok
 
@@ -68,13 +68,13 @@ module _ {κ : Kind} {K : ℕ} {ls : List (List ℕ)} {n : ℕ} {keys counts : L
   fits : fitFrom K 0 ks ≡ true
   fits = fit-sound K n keys counts (grown-fit g) .fits
 
-  edge-at : (v : ℕ) (s : Side) → v < length ks → edge es v s ≡ edgeAt κ cutoff (getD counts v 0) s
-  edge-at v s h = edge-is κ cutoff n keys counts v s (omega (arith, size)) (omega (arith, fit-room K n keys counts (grown-fit g)))
+  edge-here : (v : ℕ) (s : Side) → v < length ks → edge es v s ≡ edgeAt κ cutoff (getD counts v 0) s
+  edge-here = edge-at κ K cutoff n keys counts (grown-fit g)
 
   -- A vertex with a counter that reaches the cutoff is not isolated.
   counted-live : (v : ℕ) (s : Side) (c : ℕ) → v < length ks → c < 4 → cutoff ≤ count κ (getD counts v 0) (slotOf s c) → isolated es v ≡ false
   counted-live v s c h l k = ⊎-elim
-      (λ q. absurd (edge-some κ cutoff (getD counts v 0) s c l k (sym (edge-at v s h) ∙ isolated-side es v s q)))
+      (λ q. absurd (edge-some κ cutoff (getD counts v 0) s c l k (sym (edge-here v s h) ∙ isolated-side es v s q)))
       (λ q. q) (true-or-false (isolated es v))
 
   -- An edge that leads on is one base, counted at least as often as the cutoff asks.
@@ -82,9 +82,14 @@ module _ {κ : Kind} {K : ℕ} {ls : List (List ℕ)} {n : ℕ} {keys counts : L
       → (edge es u s < 4) × (cutoff ≤ count κ (getD counts u 0) (slotOf s (edge es u s)))
   leads-counted {u} {v} {s} h l =
       let b : edge es u s < 4 =
-      omega (arith, edges-known κ K cutoff n keys counts (grown-fit g) u s h, eqb-false (edge es u s) 5 (l .some), eqb-false (edge es u s) 4 (l .single)) in
-      let at : edgeAt κ cutoff (getD counts u 0) s < 4 = omega (arith, edge-at u s h) in
-      (b, edge-base κ cutoff (getD counts u 0) s at (edge es u s) .1 (edge-at u s h) .1)
+      omega (
+        arith,
+        edges-known κ K cutoff n keys counts (grown-fit g) u s h,
+        eqb-false (edge es u s) 5 (l .some),
+        eqb-false (edge es u s) 4 (l .single),
+      ) in
+      let at : edgeAt κ cutoff (getD counts u 0) s < 4 = omega (arith, edge-here u s h) in
+      (b, edge-base κ cutoff (getD counts u 0) s at (edge es u s) .1 (edge-here u s h) .1)
 
   -- For odd K the edge is counted as often at its other end.
   odd-live : K % 2 ≡ 1 → EntersLive K ks es

@@ -27,7 +27,8 @@ use Rattle.laws.proofs.Leads.{vertices, Leads, Joined, came-leads, step
 
 module _ (K : ℕ) (ks : List ℕ) (es : List Ends) (a : ℕ) where
   -- u is visited and was not left by the joining side: where the walk comes to v, it ends there, before u.
-  pub trail-far : {start : Side} {u v : ℕ} {s e : Side} → Joined K ks es u s v e → {marks after : List ℕ} {p : ℕ} {t : Side} {ps : List Place} {st : Step}
+  pub trail-far : {start : Side} {u v : ℕ} {s e : Side} → Joined K ks es u s v e
+      → {marks after : List ℕ} {p : ℕ} {t : Side} {ps : List Place} {st : Step}
       → Trail K ks es a start marks p t ps after st → length marks ≡ length ks → getD marks u 0 ≡ 1 → getD marks v 0 ≡ 0
       → (p ≡ u → t ≡ s → ⊥) → 1 ≤ occ v ps
       → (xs : List ℕ) × (vertices ps ≡ xs ++ (v ∷ [])) × (st ≡ Stop (VisitedAhead (eqb u a && not (sameSide s start))))
@@ -50,7 +51,8 @@ module _ (K : ℕ) (ks : List ℕ) (es : List Ends) (a : ℕ) where
       Goal : Type 0
       Goal = (xs : List ℕ) × (w ∷ vertices ps ≡ xs ++ (v ∷ [])) × (st ≡ Stop (VisitedAhead (eqb u a && not (sameSide s start))))
 
-      at-v : {b : ℕ} {after : List ℕ} → Came K ks es marks p t w y b → w ≡ v → getD (set marks w 1) u 0 ≡ 1 → Trail K ks es a start (set marks w 1) w y ps after st → Goal
+      at-v : {b : ℕ} {after : List ℕ} → Came K ks es marks p t w y b → w ≡ v → getD (set marks w 1) u 0 ≡ 1
+          → Trail K ks es a start (set marks w 1) w y ps after st → Goal
       at-v c d here r = ⊎-elim same other (side-cases K ks es (entrance K (ahead K ks es p t)) e)
         where
           same : entrance K (ahead K ks es p t) ≡ e → Goal
@@ -93,7 +95,8 @@ module _ (K : ℕ) (ks : List ℕ) (es : List Ends) (a : ℕ) where
           (λ _ z. absurd (false≢true z))))
 
   -- The last place of a walk that closes leads to the anchor's Front.
-  pub trail-closed : {marks after : List ℕ} {p : ℕ} {t : Side} {ps : List Place} {st : Step} → Trail K ks es a Back marks p t ps after st → closed st ≡ true
+  pub trail-closed : {marks after : List ℕ} {p : ℕ} {t : Side} {ps : List Place} {st : Step}
+      → Trail K ks es a Back marks p t ps after st → closed st ≡ true
       → (q : ℕ) × (r : Side) × Leads K ks es q r a Front × ((q ≡ p) ⊎ (1 ≤ occ q ps))
   unfolding occ
   trail-closed {p = p} {t = t} (ends {marks = marks} {st = st} q h) c = (p, t, step-closed marks p t st q c, inl refl)

@@ -56,7 +56,8 @@ module _ {κ : Kind} {rule : Rule} {K : ℕ} where
 -- ---- keys
 
 -- Storing a label's windows stores their canonical k-mers and no others.
-pub windows-stored : (K : ℕ) (label : List ℕ) (t : Table) (m x : ℕ) → stored (storeWindows K label t m .keys) x ≡ stored (t .keys) x || shows K label m x
+pub windows-stored : (K : ℕ) (label : List ℕ) (t : Table) (m x : ℕ)
+    → stored (storeWindows K label t m .keys) x ≡ stored (t .keys) x || shows K label m x
 unfolding storeWindows shows
 windows-stored K label t zero x = sym (or-false (stored (t .keys) x))
 windows-stored K label t (suc m) x =

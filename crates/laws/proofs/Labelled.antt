@@ -6,6 +6,7 @@ use mathlib.Core.List.{List, [], _∷_, _++_, map, reverse}
 use Prim.Native.Nat.{ℕ, suc, _+_, _-_, _^_, _≤_, _<_}
 use native.Mathlib.Omega.{arith}
 use lib.ListN.{length, getD}
+use Rattle.lemmas.proofs.Tests.{or-first, or-second}
 use Rattle.lemmas.proofs.Numbers.{lt-or-ge}
 use Rattle.dna.specs.Letters.{reverseComplement}
 use Rattle.dna.proofs.Reversal.{length-reverseComplement}
@@ -18,10 +19,11 @@ use Rattle.graph.specs.Walks.{Ends, edge, visited, isolated}
 use Rattle.graph.specs.Labels.{lesser, run}
 use Rattle.graph.proofs.Lookup.{key-at}
 use Rattle.laws.specs.Trails.{Place, Trail, Trail.ends, Trail.goes}
-use Rattle.laws.specs.Tours.{Piece, inPiece, appended, reading, readKmers, Taken, Taken.round, Taken.straight, Tour, Tour.none, Tour.passes, Tour.takes}
+use Rattle.laws.specs.Tours.{Piece, inPiece, appended, reading, readKmers}
+use Rattle.laws.specs.Tours.{Taken, Taken.round, Taken.straight, Tour, Tour.none, Tour.passes, Tour.takes}
 use Rattle.laws.specs.Windows.{windowsFrom, windowsOf, Plain}
 use Rattle.laws.proofs.Steps.{came, came-lt}
-use Rattle.laws.proofs.Tours.{or-first, or-second, taken-marked, tour-toured}
+use Rattle.laws.proofs.Tours.{taken-marked, tour-toured}
 use Rattle.laws.proofs.Runs.{run-tour}
 use Rattle.laws.proofs.Windows.{windows-turned}
 use Rattle.laws.proofs.Readings.{Spelt, taken-spelt, taken-label, reading-length, reading-windows}
@@ -32,7 +34,8 @@ pub data Paired {A B : Type 0} (R : A → B → Type 0) : List A → List B → 
   nothing : Paired R [] []
   pair : {x : A} {y : B} {xs : List A} {ys : List B} → R x y → Paired R xs ys → Paired R (x ∷ xs) (y ∷ ys)
 
-paired-snoc : {A B : Type 0} {R : A → B → Type 0} {xs : List A} {ys : List B} {x : A} {y : B} → Paired R xs ys → R x y → Paired R (xs ++ (x ∷ [])) (ys ++ (y ∷ []))
+paired-snoc : {A B : Type 0} {R : A → B → Type 0} {xs : List A} {ys : List B} {x : A} {y : B}
+    → Paired R xs ys → R x y → Paired R (xs ++ (x ∷ [])) (ys ++ (y ∷ []))
 paired-snoc nothing r = pair r nothing
 paired-snoc (pair q p) r = pair q (paired-snoc p r)
 
@@ -56,7 +59,8 @@ module _ (K : ℕ) (ks : List ℕ) (es : List Ends) where
     pub live : isolated es (p .anchor) ≡ false
     pub least : (j : ℕ) → isolated es j ≡ false → 1 ≤ inPiece j p → p .anchor ≤ j
 
-  pub labelled : {a : ℕ} {marks after : List ℕ} {ps : List Piece} {ls : List (List ℕ)} {back front : List Place} {l : List ℕ} → Tour K ks es a marks ps ls
+  pub labelled : {a : ℕ} {marks after : List ℕ} {ps : List Piece} {ls : List (List ℕ)} {back front : List Place} {l : List ℕ}
+      → Tour K ks es a marks ps ls
       → (visited marks a || isolated es a) ≡ false → Taken K ks es marks (record { anchor = a; back = back; front = front }) after l
       → suc a ≤ length ks → Labelled l (record { anchor = a; back = back; front = front })
   labelled {a} {marks} {after} t q k h =
@@ -72,7 +76,8 @@ module _ (K : ℕ) (ks : List ℕ) (es : List Ends) where
             ⊎-elim (λ lt. absurd (omega (arith, r .passed j lt i, m .counted j, m .bits j))) (λ ge. ge) (lt-or-ge j a);
       }
 
-  pub tour-labelled : {a : ℕ} {marks : List ℕ} {ps : List Piece} {ls : List (List ℕ)} → Tour K ks es a marks ps ls → a ≤ length ks → Paired Labelled ls ps
+  pub tour-labelled : {a : ℕ} {marks : List ℕ} {ps : List Piece} {ls : List (List ℕ)}
+      → Tour K ks es a marks ps ls → a ≤ length ks → Paired Labelled ls ps
   tour-labelled none h = nothing
   tour-labelled (passes t q) h = tour-labelled t (omega arith)
   tour-labelled (takes t q k) h = paired-snoc (tour-labelled t (omega arith)) (labelled t q k h)

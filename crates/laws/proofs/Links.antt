@@ -131,7 +131,8 @@ window-link K label i b h = record {
       let n : length (take K (drop (suc i) label)) ≡ K = length-take-le K (drop (suc i) label) (simp length-drop (omega arith)) in
       let s = packed-snoc (take K (drop i label)) (getD label (i + K) 0) in
       let c = packed-cons (getD label i 0) (take K (drop (suc i) label)) in
-      let e : packed (take (suc K) (drop i label)) ≡ 4 * window K label i + codeOf (getD label (i + K) 0) = rw (take-suc (drop i label) K 0 d, getD-drop i label K 0) s in
+      let e : packed (take (suc K) (drop i label)) ≡ 4 * window K label i + codeOf (getD label (i + K) 0) =
+      rw (take-suc (drop i label) K 0 d, getD-drop i label K 0) s in
       let f : packed (take (suc K) (drop i label)) ≡ codeOf (getD label i 0) * 4 ^ K + window K label (suc i) =
       ap (λ (l : List ℕ). packed (take (suc K) l)) (drop-cons label i 0 (omega arith)) ∙ (rw n at c) in
       sym e ∙ f;

@@ -1,10 +1,11 @@
 -- What contraction gives back, read by its index: the labels of the run, in ascending order, which meet demand 3 but for its last
 -- sentence. Assumes nothing.
 use mathlib.Core.Path.{_≡_, refl, sym, ap, ap₂, _∙_, subst}
-use mathlib.Core.Bool.{Bool, true, false, not, _||_}
+use mathlib.Core.Bool.{true, not, _||_}
 use mathlib.Core.List.{List, [], _∷_, _++_, map, append-assoc}
-use Prim.Native.Nat.{ℕ, _+_}
+use Prim.Native.Nat.{ℕ, _+_, _≤_}
 use native.Mathlib.Omega.{arith}
+use borrow.Author.Tests.{not-false}
 use lib.Dec.{ltb}
 use lib.ListN.{length, take, drop, length-append}
 use lib.Seq.{take-at, drop-at}
@@ -20,19 +21,26 @@ use Rattle.laws.specs.Demand.{Each, Each.none, Each.more, inOrder, liste
 use Rattle.laws.proofs.Indexed.{sorted-length, sorted-each}
 use Rattle.laws.proofs.Fits.{fit-always}
 
--- The entry's label stands where the entry says.
-abbrev Right : List ℕ → Entry → Type 0
-Right bytes e = take (length (e .label)) (drop (e .start) bytes) ≡ e .label
+-- The entry's label stands where the entry says, within the bytes.
+abbrev pub Right : List ℕ → Entry → Type 0
+Right bytes e = (take (length (e .label)) (drop (e .start) bytes) ≡ e .label) × (e .start + length (e .label) ≤ length bytes)
 
-entries-right : (at : ℕ) (first : List ℕ) (ls : List (List ℕ)) (rest bytes : List ℕ) → length first ≡ at → bytes ≡ first ++ (endToEnd ls ++ rest)
-    → Each (Right bytes) (entries at ls)
+pub entries-right : (at : ℕ) (first : List ℕ) (ls : List (List ℕ)) (rest bytes : List ℕ) → length first ≡ at
+    → bytes ≡ first ++ (endToEnd ls ++ rest) → Each (Right bytes) (entries at ls)
 unfolding entries endToEnd
 entries-right at first [] rest bytes n e = none
 entries-right at first (l ∷ ls) rest bytes n e =
     let flat : (l ++ endToEnd ls) ++ rest ≡ l ++ (endToEnd ls ++ rest) = append-assoc l (endToEnd ls) rest in
-    more
-    (ap (λ (b : List ℕ). take (length l) (drop at b)) e
-    ∙ ap (take (length l)) (drop-at first ((l ++ endToEnd ls) ++ rest) at n ∙ flat) ∙ take-at l (endToEnd ls ++ rest) (length l) refl)
+    more {x = record { start = at; label = l }} (
+      ap (λ (b : List ℕ). take (length l) (drop at b)) e
+          ∙ ap (take (length l)) (drop-at first ((l ++ endToEnd ls) ++ rest) at n ∙ flat) ∙ take-at l (endToEnd ls ++ rest) (length l) refl,
+      omega (
+        arith,
+        ap length (e ∙ ap (λ (b : List ℕ). first ++ b) flat),
+        length-append first (l ++ (endToEnd ls ++ rest)),
+        length-append l (endToEnd ls ++ rest),
+      ),
+    )
     (entries-right (at + length l) (first ++ l) ls rest bytes (length-append first l ∙ ap (λ (m : ℕ). m + length l) n)
     (e ∙ ap (λ (b : List ℕ). first ++ b) flat ∙ sym (append-assoc first l (endToEnd ls ++ rest))))
 
@@ -41,7 +49,7 @@ listed-right : (bytes : List ℕ) {es : List Entry} → Each (Right bytes) es �
     ≡ map (λ (e : Entry). e .label) es
 unfolding listed
 listed-right bytes none starts lengths = refl
-listed-right bytes (more p q) starts lengths = ap₂ (λ (l : List ℕ) (ls : List (List ℕ)). l ∷ ls) p (listed-right bytes q starts lengths)
+listed-right bytes (more p q) starts lengths = ap₂ (λ (l : List ℕ) (ls : List (List ℕ)). l ∷ ls) (p .0) (listed-right bytes q starts lengths)
 
 module _ (κ : Kind) (K cutoff n : ℕ) (keys counts labels starts lengths marks : List ℕ) where
   abbrev ks : List ℕ
@@ -56,7 +64,8 @@ module _ (κ : Kind) (K cutoff n : ℕ) (keys counts labels starts lengths marks
   -- What is written, read by its index.
   written-listed : (r : Run)
       → listed (length (r .labels)) (written κ K cutoff n keys counts labels starts lengths marks r .labels)
-      (written κ K cutoff n keys counts labels starts lengths marks r .starts) (written κ K cutoff n keys counts labels starts lengths marks r .lengths)
+      (written κ K cutoff n keys counts labels starts lengths marks r .starts)
+      (written κ K cutoff n keys counts labels starts lengths marks r .lengths)
       ≡ inOrder r
   unfolding written
   written-listed r =
@@ -69,7 +78,8 @@ module _ (κ : Kind) (K cutoff n : ℕ) (keys counts labels starts lengths marks
       ap (λ (m : ℕ). listed m bytes (sp ++ drop (length sp) starts) (lp ++ drop (length lp) lengths)) (sym (sorted-length 0 ls))
       ∙ listed-right bytes right (drop (length sp) starts) (drop (length lp) lengths)
 
-  written-number : (r : Run) (t : Totals) → written κ K cutoff n keys counts labels starts lengths marks r .answer ≡ gives t → t .labels ≡ length (r .labels)
+  written-number : (r : Run) (t : Totals) → written κ K cutoff n keys counts labels starts lengths marks r .answer ≡ gives t
+      → t .labels ≡ length (r .labels)
   unfolding written
   written-number r t h = cc
 
@@ -85,7 +95,8 @@ module _ (κ : Kind) (K cutoff n : ℕ) (keys counts labels starts lengths marks
   unfolding finish
   finished r t =
       choose Q (r .missed) (λ _ h. absurd (let z : _≡_ {A = ℕ} 0 1 = cc in omega arith))
-      (λ _. choose Q (ltb (length labels) (length (endToEnd (r .labels))) || ltb (length starts) (length (r .labels)) || ltb (length lengths) (length (r .labels)))
+      (λ _. choose Q (ltb (length labels) (length (endToEnd (r .labels))) || ltb (length starts) (length (r .labels))
+      || ltb (length lengths) (length (r .labels)))
       (λ _ h. absurd (let z : _≡_ {A = ℕ} 0 1 = cc in omega arith)) (λ _ _. refl))
     where
       Q : Contracted → Type 0
@@ -100,15 +111,12 @@ module _ (κ : Kind) (K cutoff n : ℕ) (keys counts labels starts lengths marks
       (λ q. choose P (ltb (length marks) n) (λ _ h. absurd (let z : _≡_ {A = ℕ} 0 1 = cc in omega arith))
       (λ _ h.
       let w = finished r t h in
-      let a : written κ K cutoff n keys counts labels starts lengths marks (run K ks es n) .answer ≡ gives t = ap (λ (c : Contracted). c .answer) (sym w) ∙ h in
+      let a : written κ K cutoff n keys counts labels starts lengths marks (run K ks es n) .answer ≡ gives t =
+      ap (λ (c : Contracted). c .answer) (sym w) ∙ h in
       record { ok = not-false (okK K) p; fits = not-false (fit K n keys counts) q; is = w; number = written-number r t a })))
     where
       P : Contracted → Type 0
       P c = c .answer ≡ gives t → Accepted c t
-
-      not-false : (b : Bool) → not b ≡ false → b ≡ true
-      not-false true e = refl
-      not-false false e = sym e
 
   -- The labels that the call's index lists are those of the run, in ascending order.
   pub contract-listed : (t : Totals) → result .answer ≡ gives t

@@ -22,15 +22,14 @@ use Rattle.graph.specs.Walks.{Ends, endsOf, endOn, edge, seen, leaving, entranc
 use Rattle.graph.specs.Labels.{run}
 use Rattle.graph.specs.Contraction.{endsIn}
 use Rattle.graph.proofs.Lookup.{Key, key-at, key-inj, at-stored, rank-at}
-use Rattle.graph.proofs.Accepted.{fit-room, fit-length, fit-sound}
+use Rattle.graph.proofs.Accepted.{fit-length, fit-sound}
 use Rattle.laws.specs.Grown.{Grown, Joins}
 use Rattle.laws.specs.Demand.{Some, Sole, OneBase, Maximal, inOrder}
 use Rattle.laws.proofs.Keys.{grown-fit}
 use Rattle.laws.proofs.Sides.{seenAs, seen-is, seen-exit}
 use Rattle.laws.proofs.Odd.{canon-seen, seen-inj}
 use Rattle.laws.proofs.Edges.{other-end, joins-loop, grown-symmetric}
-use Rattle.laws.proofs.Found.{edge-is}
-use Rattle.laws.proofs.Fits.{edges-known}
+use Rattle.laws.proofs.Fits.{edge-at, edges-known}
 use Rattle.laws.proofs.Steps.{ahead}
 use Rattle.laws.proofs.Leads.{Leads, Joined}
 use Rattle.laws.proofs.Neighbours.{Beside, run-joined}
@@ -39,12 +38,14 @@ opposite-inj : (s t : Side) → opposite s ≡ opposite t → s ≡ t
 opposite-inj s t e = sym (opposite-opposite s) ∙ ap opposite e ∙ opposite-opposite t
 
 -- An edge that leads to the vertex itself, by the other side, read backwards.
-turned : (K : ℕ) (ks : List ℕ) (w : ℕ) (r : Side) (b u : ℕ) (s : Side) (c : ℕ) → Joins K ks w r b u s c → w ≡ u → r ≡ opposite s → Joins K ks u s c u (opposite s) b
+turned : (K : ℕ) (ks : List ℕ) (w : ℕ) (r : Side) (b u : ℕ) (s : Side) (c : ℕ)
+    → Joins K ks w r b u s c → w ≡ u → r ≡ opposite s → Joins K ks u s c u (opposite s) b
 turned K ks w r b u s c j d x =
     let k = subst (λ (z : Side). Joins K ks u z b u s c) x (subst (λ (i : ℕ). Joins K ks i r b u s c) d j) in
     record { there = k .back; back = k .there }
 
-module _ {κ : Kind} {K : ℕ} {ls : List (List ℕ)} {n : ℕ} {keys counts : List ℕ} (g : Grown κ sameCanonical K ls n keys counts) (cutoff : ℕ) (odd : K % 2 ≡ 1) where
+module _ {κ : Kind} {K : ℕ} {ls : List (List ℕ)} {n : ℕ} {keys counts : List ℕ}
+    (g : Grown κ sameCanonical K ls n keys counts) (cutoff : ℕ) (odd : K % 2 ≡ 1) where
   abbrev ks : List ℕ
   ks = keysOf n keys
 
@@ -60,8 +61,8 @@ module _ {κ : Kind} {K : ℕ} {ls : List (List ℕ)} {n : ℕ} {keys counts : L
   key : (v : ℕ) → v < length ks → Key K (getD ks v 0)
   key v h = key-at K ks fits v h
 
-  edge-at : (v : ℕ) (s : Side) → v < length ks → edge es v s ≡ edgeAt κ cutoff (getD counts v 0) s
-  edge-at v s h = edge-is κ cutoff n keys counts v s (omega (arith, size)) (omega (arith, fit-room K n keys counts (grown-fit g)))
+  edge-here : (v : ℕ) (s : Side) → v < length ks → edge es v s ≡ edgeAt κ cutoff (getD counts v 0) s
+  edge-here = edge-at κ K cutoff n keys counts (grown-fit g)
 
   known : (v : ℕ) (s : Side) → v < length ks → edge es v s ≤ 5
   known = edges-known κ K cutoff n keys counts (grown-fit g)
@@ -74,8 +75,11 @@ module _ {κ : Kind} {K : ℕ} {ls : List (List ℕ)} {n : ℕ} {keys counts : L
       let c : canon K (ahead K ks es v s) ≡ getD ks u 0 = ap (canon K) p ∙ canon-seen K (getD ks u 0) (opposite e) (key u h) in
       let x : seenAs K (getD ks u 0) (opposite (entrance K (ahead K ks es v s))) ≡ seenAs K (getD ks u 0) (opposite e) =
       ap (λ (z : ℕ). seenAs K z (opposite (entrance K (ahead K ks es v s)))) (sym c)
-      ∙ seen-exit K (ahead K ks es v s) (forward-lt K (seen K ks v s) (leaving s (edge es v s))) ∙ p in
-      (c, opposite-inj _ e (seen-inj K (getD ks u 0) (getD ks u 0) (opposite (entrance K (ahead K ks es v s))) (opposite e) odd (key u h) (key u h) x .1))
+      ∙ seen-exit K (ahead K ks es v s) (forward-lt K (seen K ks v s) (leaving s (edge es v s))) ∙ p in (
+        c,
+        opposite-inj _ e (seen-inj K (getD ks u 0) (getD ks u 0) (opposite (entrance K (ahead K ks es v s))) (opposite e) odd
+            (key u h) (key u h) x .1),
+      )
 
   sole-leads : (u : ℕ) (s : Side) (v : ℕ) (t : Side) → v < length ks → Sole K ks es u s v t → Leads K ks es u s v t
   sole-leads u s v t hv o =
@@ -115,20 +119,23 @@ module _ {κ : Kind} {K : ℕ} {ls : List (List ℕ)} {n : ℕ} {keys counts : L
       let c = oe .0 in
       let hc = oe .1 in
       let j : Joins K ks w r (edge es w r) u s (oe .0) = rw (l .vertex, l .side) at (oe .2) in
-      let loop : w ≡ u → r ≡ opposite s → ⊥ = λ d x. nb (joins-loop K ks fits u s (oe .0) (edge es w r) hu hc hb (turned K ks w r (edge es w r) u s (oe .0) j d x)) in
+      let loop : w ≡ u → r ≡ opposite s → ⊥ =
+      λ d x. nb (joins-loop K ks fits u s (oe .0) (edge es w r) hu hc hb (turned K ks w r (edge es w r) u s (oe .0) j d x)) in
       let same = grown-symmetric g odd w r (edge es w r) u s (oe .0) (omega (arith, size)) (omega (arith, size)) hb hc j loop in
-      let ew : edgeAt κ cutoff (getD counts w 0) r < 4 = omega (arith, edge-at w r hw) in
-      let eu : edgeAt κ cutoff (getD counts u 0) s < 4 = omega (arith, edge-at u s hu, o .at-u) in
-      let kept = edge-base κ cutoff (getD counts w 0) r ew (edge es w r) .1 (edge-at w r hw) .1 in
-      let is : oe .0 ≡ edge es u s = edge-base κ cutoff (getD counts u 0) s eu (oe .0) .0 (hc, omega arith) ∙ sym (edge-at u s hu) in
+      let ew : edgeAt κ cutoff (getD counts w 0) r < 4 = omega (arith, edge-here w r hw) in
+      let eu : edgeAt κ cutoff (getD counts u 0) s < 4 = omega (arith, edge-here u s hu, o .at-u) in
+      let kept = edge-base κ cutoff (getD counts w 0) r ew (edge es w r) .1 (edge-here w r hw) .1 in
+      let is : oe .0 ≡ edge es u s = edge-base κ cutoff (getD counts u 0) s eu (oe .0) .0 (hc, omega arith) ∙ sym (edge-here u s hu) in
       let e : seenAs K (getD ks w 0) (opposite r) ≡ seenAs K (getD ks v 0) (opposite t) =
-      sym (seen-is K ks w (opposite r)) ∙ sym (j .back) ∙ ap (λ (z : ℕ). forward K (seen K ks u s) (leaving s z)) is ∙ o .joins .there ∙ seen-is K ks v (opposite t) in
+      sym (seen-is K ks w (opposite r)) ∙ sym (j .back) ∙ ap (λ (z : ℕ). forward K (seen K ks u s) (leaving s z)) is
+      ∙ o .joins .there ∙ seen-is K ks v (opposite t) in
       let i = seen-inj K (getD ks w 0) (getD ks v 0) (opposite r) (opposite t) odd (key w hw) (key v hv) e in
       (key-inj K ks fits w v hw hv (i .0), opposite-inj r t (i .1))
 
   pub grown-maximal : Maximal K ks es (inOrder (run K ks es n))
   grown-maximal u v s t hu hv o d nu nv =
-      let back : Sole K ks es v t u s = record { at-u = o .at-v; at-v = o .at-u; joins = record { there = o .joins .back; back = o .joins .there } } in
+      let back : Sole K ks es v t u s =
+      record { at-u = o .at-v; at-v = o .at-u; joins = record { there = o .joins .back; back = o .joins .there } } in
       let j : Joined K ks es u s v t = record {
         differ = d;
         out = sole-leads u s v t hv o;

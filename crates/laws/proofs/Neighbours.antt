@@ -1,13 +1,13 @@
 -- Two vertices whose edge is the only one at both ends are neighbours in a label of the run, or its two ends. Assumes nothing.
 use mathlib.Core.Path.{_≡_, refl, sym, ap, ap₂, _∙_, subst}
-use mathlib.Core.Bool.{Bool, true, false, _&&_}
+use mathlib.Core.Bool.{true, false, and-false}
 use mathlib.Core.Logic.{⊎-elim}
 use mathlib.Core.List.{List, [], _∷_, _++_, map, reverse, reverse-cons, reverse-append, map-append, map-map}
 use Prim.Native.Nat.{ℕ, _+_, _≤_, _<_}
 use native.Mathlib.Omega.{arith}
 use lib.Dec.{eqb}
 use lib.ListN.{length, getD}
-use Rattle.lemmas.proofs.Tests.{choose}
+use Rattle.lemmas.proofs.Tests.{choose, or-first}
 use Rattle.lemmas.proofs.Numbers.{lt-or-ge}
 use Rattle.dna.specs.Order.{before}
 use Rattle.kmer.specs.Kmer.{rc, canon}
@@ -22,9 +22,10 @@ use Rattle.laws.specs.Trails.{Place}
 use Rattle.laws.specs.Tours.{Piece, inPieces, kmers, readKmers, Tour, Tour.none, Tour.passes, Tour.takes}
 use Rattle.laws.specs.Windows.{windowsOf}
 use Rattle.laws.specs.Demand.{Some, Some.here, Some.there, inOrder}
-use Rattle.laws.specs.Neighbours.{Next, Next.now, Next.later, Together, Together.follows, Together.precedes, Together.two-ends, Together.ends-two}
+use Rattle.laws.specs.Neighbours.{Next, Next.now, Next.later}
+use Rattle.laws.specs.Neighbours.{Together, Together.follows, Together.precedes, Together.two-ends, Together.ends-two}
 use Rattle.laws.proofs.Steps.{ahead}
-use Rattle.laws.proofs.Tours.{or-first, taken-marked, tour-toured}
+use Rattle.laws.proofs.Tours.{taken-marked, tour-toured}
 use Rattle.laws.proofs.Runs.{run-tour, run-toured}
 use Rattle.laws.proofs.Labelled.{Labelled, labelled, back-inside, front-inside, label-windows}
 use Rattle.laws.proofs.Occurrences.{keysAt, canon-turned, canon-key, canon-kmers, kmers-small, text-small}
@@ -119,7 +120,8 @@ module _ (K : ℕ) (ks : List ℕ) (es : List Ends) (one : 1 ≤ K) (fit : fitFr
 
   label-together : {l : List ℕ} {p : Piece} → Labelled K ks es l p → (u v : ℕ) → Together u v (path p) → Beside u v l
   label-together {p = p} g u v t =
-      let k : Together (key u) (key v) (map (canon K) (readKmers K ks p)) = subst (Together (key u) (key v)) (sym (canon-path g)) (together-map key t) in
+      let k : Together (key u) (key v) (map (canon K) (readKmers K ks p)) =
+      subst (Together (key u) (key v)) (sym (canon-path g)) (together-map key t) in
       ⊎-elim
       (λ q. subst (λ (ws : List ℕ). Together (key u) (key v) (map (canon K) ws)) (sym q) k)
       (λ q. subst (Together (key u) (key v))
@@ -152,11 +154,7 @@ module _ (K : ℕ) (ks : List ℕ) (es : List Ends) (one : 1 ≤ K) (fit : fitFr
       where
         side : (t : Side) → eqb (edge es u t) 5 ≡ false → isolated es u ≡ false
         side Front q = rw q
-        side Back q = rw q (last (eqb (edge es u Front) 5))
-          where
-            last : (x : Bool) → (x && false) ≡ false
-            last true = refl
-            last false = refl
+        side Back q = rw q (and-false (eqb (edge es u Front) 5))
 
     pub run-joined : Some (Beside u v) (inOrder (run K ks es (length ks)))
     run-joined =

@@ -29,7 +29,8 @@ use Rattle.laws.proofs.Sides.{seen-is}
 use Rattle.laws.proofs.Odd as odd
 use Rattle.laws.proofs.Readings.{reading-length}
 use Rattle.laws.proofs.Runs.{run-toured, run-at-most-once}
-use Rattle.laws.proofs.Labelled.{Paired, Paired.nothing, Paired.pair, Inside, Labelled, run-labelled, back-inside, front-inside, reading-plain, text-windows, label-windows}
+use Rattle.laws.proofs.Labelled.{Paired, Paired.nothing, Paired.pair, Inside, Labelled}
+use Rattle.laws.proofs.Labelled.{run-labelled, back-inside, front-inside, reading-plain, text-windows, label-windows}
 use Rattle.laws.proofs.Plain.{plain-bases}
 
 -- ---- counting in lists
@@ -135,8 +136,10 @@ module _ (K : ℕ) (ks : List ℕ) (es : List Ends) (one : 1 ≤ K) (fit : fitFr
         ∙ tally-append x (map (canon K) (reverse (map (rc K) f))) (map (canon K) (key ∷ kmers K ks (p .back)))
         ∙ ap₂ _+_
         (tally-reverse x (canon K) (map (rc K) f)
-        ∙ ap (tally x) (canon-turned K f (kmers-small K ks fit (p .front) (front-inside K ks es g)) ∙ canon-kmers K ks fit (p .front) (front-inside K ks es g)))
-        (ap₂ (λ (y : ℕ) (ys : List ℕ). tally x (y ∷ ys)) (canon-key K ks fit (p .anchor) (g .stored-one)) (canon-kmers K ks fit (p .back) (back-inside K ks es g)))
+        ∙ ap (tally x) (canon-turned K f (kmers-small K ks fit (p .front) (front-inside K ks es g))
+        ∙ canon-kmers K ks fit (p .front) (front-inside K ks es g)))
+        (ap₂ (λ (y : ℕ) (ys : List ℕ). tally x (y ∷ ys)) (canon-key K ks fit (p .anchor) (g .stored-one))
+        (canon-kmers K ks fit (p .back) (back-inside K ks es g)))
 
     -- A key occurs in a label as often as its vertex stands in the piece.
     pub label-occurs : (v : ℕ) → v < length ks → occurs K (getD ks v 0) l ≡ inPiece v p

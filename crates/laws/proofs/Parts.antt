@@ -1,6 +1,6 @@
 -- For odd K a counter stands for a part of K + 1 bases, and a label sights it where two of its windows are that part on either
 -- strand. Assumes nothing.
-use mathlib.Core.Path.{_≡_, refl, sym, _∙_}
+use mathlib.Core.Path.{_≡_, refl, _∙_}
 use mathlib.Core.Bool.{Bool, true, false, cond, _&&_}
 use mathlib.Core.List.{List}
 use Prim.Native.Nat.{ℕ, suc, _+_, _-_, _*_, _%_, _≤_, _<_}
@@ -8,7 +8,7 @@ use native.Mathlib.Omega.{arith}
 use lib.Dec.{eqb}
 use lib.ListN.{length, getD}
 use borrow.Author.Tests.{eqb-true, eq-eqb, lt-ltb, le-ltb}
-use Rattle.lemmas.proofs.Tests.{both}
+use Rattle.lemmas.proofs.Tests.{both, same-bool}
 use Rattle.dna.specs.Letters.{codeOf, complement}
 use Rattle.kmer.specs.Kmer.{rc, canon}
 use Rattle.kmer.proofs.Windows.{Bases}
@@ -23,11 +23,6 @@ use Rattle.laws.specs.Grown.{times}
 use Rattle.laws.proofs.Links.{Link, window-link, link-turned}
 use Rattle.laws.proofs.Sides.{seenAs, complement-is, complement-none, leaving-leaving, leaving-lt, seen-exit, seen-entrance}
 use Rattle.laws.proofs.Odd.{seen-inj}
-
-pub same-bool : (a b : Bool) → (a ≡ true → b ≡ true) → (b ≡ true → a ≡ true) → a ≡ b
-same-bool true b f g = sym (f refl)
-same-bool false true f g = g refl
-same-bool false false f g = refl
 
 -- 1 where two numbers are the same, else 0.
 abbrev pub same : ℕ → ℕ → ℕ

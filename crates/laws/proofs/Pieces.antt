@@ -14,7 +14,8 @@ use Rattle.state.specs.declared.Side.the-variants.{Front, Back}
 use Rattle.graph.specs.Walks.{Ends, closed}
 use Rattle.laws.specs.Trails.{occ}
 use Rattle.laws.specs.Tours.{Piece, inPiece, Taken, Taken.round, Taken.straight}
-use Rattle.laws.specs.Neighbours.{Next, Next.now, Next.later, Together, Together.follows, Together.precedes, Together.two-ends, Together.ends-two}
+use Rattle.laws.specs.Neighbours.{Next, Next.now, Next.later}
+use Rattle.laws.specs.Neighbours.{Together, Together.follows, Together.precedes, Together.two-ends, Together.ends-two}
 use Rattle.laws.proofs.Marks.{Bits, set-same, set-other, set-bits, trail-marked}
 use Rattle.laws.proofs.Leads.{vertices, Joined, joined-back, step-goes, not-visited, trail-join}
 use Rattle.laws.proofs.Joining.{trail-far, trail-closed}
@@ -101,7 +102,8 @@ module _ (K : ℕ) (ks : List ℕ) (es : List Ends) where
   -- Neither is the anchor.
   inner-join : {u v : ℕ} {s e : Side} → Joined K ks es u s v e → {marks after l : List ℕ} {p : Piece} → Taken K ks es marks p after l
       → p .anchor < length ks → length marks ≡ length ks → Bits marks → getD marks u 0 ≡ 0 → getD marks v 0 ≡ 0
-      → (p .anchor ≡ u → ⊥) → (p .anchor ≡ v → ⊥) → 1 ≤ (occ u (p .back) + occ v (p .back)) + (occ u (p .front) + occ v (p .front)) → Together u v (path p)
+      → (p .anchor ≡ u → ⊥) → (p .anchor ≡ v → ⊥) → 1 ≤ (occ u (p .back) + occ v (p .back)) + (occ u (p .front) + occ v (p .front))
+      → Together u v (path p)
   unfolding occ
   inner-join {u} {v} j (round {marks = marks} {a = a} t c q) h n b zu zv nu nv o =
       let la : a < length marks = omega arith in

@@ -7,6 +7,7 @@ use Prim.Native.Nat.{ℕ, zero, suc, _+_, _*_, _≤_, _<_}
 use native.Mathlib.Nat.{mul-suc, mul-add, mul-zero, mul-le-mul-left}
 use native.Mathlib.Omega.{arith}
 use lib.ListN.{length, getD, set, replicate, length-append, length-set}
+use Rattle.lemmas.proofs.Tests.{or-first}
 use Rattle.state.specs.declared.Side.{Side}
 use Rattle.state.specs.declared.Side.the-variants.{Back}
 use Rattle.graph.specs.declared.Step.{Step}
@@ -18,7 +19,7 @@ use Rattle.laws.specs.Trails.{Place, Trail, Trail.ends, Trail.goes}
 use Rattle.laws.specs.Tours.{Piece, Taken, Taken.round, Taken.straight, Tour, Tour.none, Tour.passes, Tour.takes}
 use Rattle.laws.proofs.Steps.{came, came-lt}
 use Rattle.laws.proofs.Marks.{Bits, unmarked, set-same, set-bits, trail-marked}
-use Rattle.laws.proofs.Tours.{or-first, tour-toured}
+use Rattle.laws.proofs.Tours.{tour-toured}
 use Rattle.laws.proofs.Runs.{run-tour, run-toured}
 use Rattle.laws.proofs.Labelled.{label-length, labelled}
 
@@ -54,7 +55,8 @@ at-least K zero h = omega (arith, mul-suc K 0, mul-zero K)
 at-least K (suc m) h = omega (arith, mul-suc K (suc m), at-least K m h)
 
 module _ (K : ℕ) (ks : List ℕ) (es : List Ends) where
-  trail-total : {a : ℕ} {start : Side} {marks after : List ℕ} {v : ℕ} {s : Side} {ps : List Place} {st : Step} → Trail K ks es a start marks v s ps after st
+  trail-total : {a : ℕ} {start : Side} {marks after : List ℕ} {v : ℕ} {s : Side} {ps : List Place} {st : Step}
+      → Trail K ks es a start marks v s ps after st
       → length marks ≡ length ks → Bits marks → total after ≡ total marks + length ps
   trail-total (ends e h) l b = omega arith
   trail-total {a} {start} (goes {marks = marks} {v = v} {u = u} {s = s} e t) l b =

@@ -6,7 +6,7 @@ use Prim.Native.Nat.{ℕ, zero, suc, _≤_, _<_}
 use native.Mathlib.Omega.{arith}
 use lib.ListN.{length, getD, set, length-set}
 use borrow.Author.Tests.{eq-eqb}
-use Rattle.lemmas.proofs.Tests.{choose}
+use Rattle.lemmas.proofs.Tests.{choose, or-first}
 use Rattle.dna.specs.Letters.{letterOf, reverseComplement}
 use Rattle.kmer.specs.Kmer.{rc, letters}
 use Rattle.state.specs.declared.Side.the-variants.{Front, Back}
@@ -15,7 +15,7 @@ use Rattle.graph.specs.Labels.{Run, lesser, labelOf, extract, run}
 use Rattle.laws.specs.Trails.{Place}
 use Rattle.laws.specs.Tours.{Piece, inPieces, Taken, Taken.round, Taken.straight, Tour, Tour.none, Tour.passes, Tour.takes}
 use Rattle.laws.proofs.Fuel.{Went, walk-went, trail-long}
-use Rattle.laws.proofs.Tours.{or-first, taken-marked, Toured, tour-toured}
+use Rattle.laws.proofs.Tours.{taken-marked, Toured, tour-toured}
 
 module _ (K : ℕ) (ks : List ℕ) (es : List Ends) where
   -- What one anchor comes to.
@@ -56,7 +56,8 @@ module _ (K : ℕ) (ks : List ℕ) (es : List Ends) where
         label = labelOf K ks es (getD ks a 0) b f;
         taken = rw q
             (straight (wb .trail) q (wf .trail)
-            (ap (λ (bs : List ℕ). lesser (reverseComplement (letters K (rc K (getD ks a 0)) ++ map letterOf (f .bases)) ++ map letterOf bs)) (wb .bases)
+            (ap (λ (bs : List ℕ). lesser (reverseComplement (letters K (rc K (getD ks a 0)) ++ map letterOf (f .bases)) ++ map letterOf bs))
+            (wb .bases)
             ∙ ap (λ (fs : List ℕ). lesser (reverseComplement (letters K (rc K (getD ks a 0)) ++ map letterOf fs)
             ++ map letterOf (map (λ (p : Place). p .base) (wb .places)))) (wf .bases)));
         labels = refl;

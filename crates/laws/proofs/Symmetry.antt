@@ -11,6 +11,7 @@ use lib.Arith.{digits-mod}
 use lib.Dec.{eqb}
 use lib.ListN.{length, getD}
 use borrow.Author.Tests.{eqb-true, eq-eqb}
+use Rattle.lemmas.proofs.Tests.{same-bool}
 use Rattle.lemmas.proofs.Numbers.{lt-or-ge}
 use Rattle.dna.specs.Letters.{codeOf}
 use Rattle.kmer.specs.Kmer.{rc, canon, forward}
@@ -29,7 +30,7 @@ use Rattle.laws.proofs.Links.{Link, rc-last, link-of, window-link, link
 use Rattle.laws.proofs.Sides.{seenAs, leaving-lt}
 use Rattle.laws.proofs.Closed.{AllReadable}
 use Rattle.laws.proofs.Odd.{seen-lt}
-use Rattle.laws.proofs.Parts.{same-bool, part, after, before, long, after-none, before-none, after-is, before-is}
+use Rattle.laws.proofs.Parts.{part, after, before, long, after-none, before-none, after-is, before-is}
 
 -- ---- two counters whose parts are each other's reverse complements
 
@@ -97,7 +98,13 @@ module _ (K : ℕ) (odd : K % 2 ≡ 1) (x : ℕ) (fx : Key K x) (s : Side) (b : 
         ≡ sights (suc m) y (slotOf t c) + after K label x (slotOf s b) m
     unfolding sightings times predecessor
     sums zero h =
-        omega (arith, one-more 0 x (slotOf s b), one-more 0 y (slotOf t c), before-none rule K label x (slotOf s b) 0 refl, before-none rule K label y (slotOf t c) 0 refl)
+        omega (
+          arith,
+          one-more 0 x (slotOf s b),
+          one-more 0 y (slotOf t c),
+          before-none rule K label x (slotOf s b) 0 refl,
+          before-none rule K label y (slotOf t c) 0 refl,
+        )
     sums (suc m) h =
         omega (arith, one-more (suc m) x (slotOf s b), one-more (suc m) y (slotOf t c), sums m (omega arith), between m (omega arith))
 
@@ -111,7 +118,12 @@ module _ (K : ℕ) (odd : K % 2 ≡ 1) (x : ℕ) (fx : Key K x) (s : Side) (b : 
       (λ l.
       let m = length label - K in
       let e : windows K label ≡ suc m = omega arith in
-      rw e (omega (arith, sums label bases m (omega arith), after-none K label x (slotOf s b) m (omega arith), after-none K label y (slotOf t c) m (omega arith))))
+      rw e (omega (
+        arith,
+        sums label bases m (omega arith),
+        after-none K label x (slotOf s b) m (omega arith),
+        after-none K label y (slotOf t c) m (omega arith),
+      )))
       (lt-or-ge (length label) K)
 
   pub labels-same : (ls : List (List ℕ)) → AllReadable K ls → sightedIn rule K ls x (slotOf s b) ≡ sightedIn rule K ls y (slotOf t c)

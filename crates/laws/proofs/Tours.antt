@@ -1,6 +1,6 @@
 -- The run of all anchors is a tour, which visits no vertex twice and every vertex that is not isolated. Assumes nothing.
 use mathlib.Core.Path.{_≡_, refl, sym, ap, _∙_}
-use mathlib.Core.Bool.{Bool, true, false, _||_, false≢true}
+use mathlib.Core.Bool.{Bool, true, false, _||_}
 use mathlib.Core.Logic.{_⊎_, inl, inr, ⊎-elim}
 use mathlib.Core.List.{List, [], _∷_, _++_}
 use Prim.Native.Nat.{ℕ, zero, suc, _+_, _≤_, _<_}
@@ -8,7 +8,7 @@ use native.Mathlib.Nat.{eq-or-lt-of-le}
 use native.Mathlib.Omega.{arith}
 use lib.ListN.{length, getD, set, replicate, length-set, length-replicate}
 use borrow.Author.Tests.{eqb-true, eq-eqb}
-use Rattle.lemmas.proofs.Tests.{never}
+use Rattle.lemmas.proofs.Tests.{never, or-first}
 use Rattle.state.specs.declared.Side.the-variants.{Front, Back}
 use Rattle.graph.specs.Walks.{Ends, visited, isolated}
 use Rattle.laws.specs.Trails.{occ}
@@ -29,14 +29,6 @@ zeros : (n i : ℕ) → getD {A = ℕ} (replicate n 0) i 0 ≡ 0
 zeros zero i = refl
 zeros (suc n) zero = refl
 zeros (suc n) (suc i) = zeros n i
-
-pub or-first : (x y : Bool) → (x || y) ≡ false → x ≡ false
-or-first true y h = h
-or-first false y h = refl
-
-pub or-second : (x y : Bool) → (x || y) ≡ false → y ≡ false
-or-second true y h = absurd (false≢true (sym h))
-or-second false y h = h
 
 or-cases : (x y : Bool) → (x || y) ≡ true → (x ≡ true) ⊎ (y ≡ true)
 or-cases true y h = inl refl

@@ -1,6 +1,6 @@
 -- Tests: what follows from the value of a Bool. Assumes nothing.
-use mathlib.Core.Path.{_≡_, refl}
-use mathlib.Core.Bool.{Bool, true, false, cond, _&&_, false≢true}
+use mathlib.Core.Path.{_≡_, refl, sym}
+use mathlib.Core.Bool.{Bool, true, false, cond, _&&_, _||_, false≢true}
 use Prim.Native.Nat.{ℕ}
 use native.Mathlib.Omega.{arith}
 
@@ -13,6 +13,21 @@ choose P false f g = g refl
 pub both : (a b : Bool) → a && b ≡ true → (a ≡ true) × (b ≡ true)
 both true b h = (refl, h)
 both false b h = absurd (false≢true h)
+
+-- Neither test of a disjunction holds.
+pub or-first : (a b : Bool) → (a || b) ≡ false → a ≡ false
+or-first true b h = h
+or-first false b h = refl
+
+pub or-second : (a b : Bool) → (a || b) ≡ false → b ≡ false
+or-second true b h = absurd (false≢true (sym h))
+or-second false b h = h
+
+-- Two tests of which each holds where the other does.
+pub same-bool : (a b : Bool) → (a ≡ true → b ≡ true) → (b ≡ true → a ≡ true) → a ≡ b
+same-bool true b f g = sym (f refl)
+same-bool false true f g = g refl
+same-bool false false f g = refl
 
 -- No test is both true and false.
 pub never : {P : Type 0} (b : Bool) → b ≡ true → b ≡ false → P

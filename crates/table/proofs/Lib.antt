@@ -7,4 +7,5 @@ pub mod Outcomes
 pub mod Ranked
 pub mod Ascending
 pub mod Verdict
+pub mod Told
 pub mod Says

@@ -5,13 +5,10 @@ use mathlib.Core.List.{List}
 use Prim.Native.Nat.{ℕ, _≤_, _<_}
 use borrow.Author.Tests.{leb-true, le-leb, lt-leb}
 use lib.Dec.{leb}
-use Rattle.kmer.specs.Kmer.{okK}
+use Rattle.kmer.proofs.Bounds.{bounds-ok}
 use Rattle.graph.specs.Table.{keysOf, capacity, fitFrom}
 use Rattle.table.specs.Calls.{fitCall, fitAnswer}
 use Rattle.table.specs.declared.FitAnswer.the-variants.{Fit, Unfit, UnsupportedK}
-
-pub ok : (k : ℕ) → 1 ≤ k → k ≤ 63 → okK k ≡ true
-ok k l m = rw (le-leb 1 k l, le-leb k 63 m)
 
 module _ (k n : ℕ) (keys counts : List ℕ) where
   pub fit-refused : (1 ≤ k → k ≤ 63 → ⊥) → fitAnswer (UnsupportedK k) ≡ fitCall k n keys counts
@@ -24,8 +21,8 @@ module _ (k n : ℕ) (keys counts : List ℕ) where
 
   module _ (l : 1 ≤ k) (m : k ≤ 63) where
     pub fit-over : capacity keys counts < n → fitAnswer Unfit ≡ fitCall k n keys counts
-    fit-over h = rw (ok k l m, lt-leb n (capacity keys counts) h)
+    fit-over h = rw (bounds-ok k l m, lt-leb n (capacity keys counts) h)
 
     pub fit-keys : n ≤ capacity keys counts → (t : Bool) → t ≡ fitFrom k 0 (keysOf n keys) → fitAnswer (cond t Fit Unfit) ≡ fitCall k n keys counts
-    fit-keys h true e = rw (ok k l m, le-leb n (capacity keys counts) h, sym e)
-    fit-keys h false e = rw (ok k l m, le-leb n (capacity keys counts) h, sym e)
+    fit-keys h true e = rw (bounds-ok k l m, le-leb n (capacity keys counts) h, sym e)
+    fit-keys h false e = rw (bounds-ok k l m, le-leb n (capacity keys counts) h, sym e)

@@ -2,8 +2,9 @@
 use mathlib.Core.Path.{sym, ap₂, _∙_}
 use mathlib.Core.Bool.{_||_}
 use native.Mathlib.Omega.{arith}
+use Rattle.kmer.proofs.Bounds.{ok-bounds}
 use Rattle.contraction.proofs.Marking.{ends-length, ready-still}
-use Rattle.contraction.proofs.Labelling.{k-small, extracts-closed, extracts-open}
+use Rattle.contraction.proofs.Labelling.{extracts-closed, extracts-open}
 use borrow.Author.Needs.{needs}
 use Rattle.contraction.proofs.survey.extract.Statement.{statement}
 use Rattle.contraction.proofs.survey.extract.Tie as tie
@@ -12,7 +13,7 @@ add-t13 : tie.Need-add-t13
 add-t13 c =
     let back = c .before .before .before .before .before in
     let s = back .before .before .before .before in
-    omega (arith, k-small (s .pre .0), s .pre .0 .few, back .walk .ensures .few)
+    omega (arith, ok-bounds (s .args .k) (s .pre .0 .ok) .1, s .pre .0 .few, back .walk .ensures .few)
 
 returns : tie.Need-returns
 returns c =
@@ -32,7 +33,7 @@ add-t16 c =
     let front = c .before .before .before in
     let back = front .before .before .before .before .before .before in
     let s = back .before .before .before .before in
-    omega (arith, k-small (s .pre .0), s .pre .0 .few, ends-length _ _ (back .walk .ensures .ends-kept), front .walk2 .ensures .few)
+    omega (arith, ok-bounds (s .args .k) (s .pre .0 .ok) .1, s .pre .0 .few, ends-length _ _ (back .walk .ensures .ends-kept), front .walk2 .ensures .few)
 
 add-t17 : tie.Need-add-t17
 add-t17 c =
@@ -40,7 +41,7 @@ add-t17 c =
     let back = front .before .before .before .before .before .before in
     let s = back .before .before .before .before in
     let w = back .walk .ensures in
-    omega (arith, k-small (s .pre .0), s .pre .0 .few, ends-length _ _ (w .ends-kept), w .few, front .walk2 .ensures .few)
+    omega (arith, ok-bounds (s .args .k) (s .pre .0 .ok) .1, s .pre .0 .few, ends-length _ _ (w .ends-kept), w .few, front .walk2 .ensures .few)
 
 returns-2 : tie.Need-returns-2
 returns-2 c =

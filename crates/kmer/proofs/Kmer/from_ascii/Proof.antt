@@ -1,12 +1,11 @@
 -- K is tested, then the length, then the letters. Assumes nothing.
 use mathlib.Core.Path.{_≡_, sym, _∙_}
 use mathlib.Core.Bool.{true}
-use borrow.Author.Tests.{not-true, not-false, leb-true, lt-ltb, le-ltb}
-use lib.Dec.{leb}
+use borrow.Author.Tests.{not-true, not-false, lt-ltb, le-ltb}
 use lib.ListN.{length}
-use Rattle.lemmas.proofs.Tests.{both}
 use Rattle.kmer.specs.Kmer.{okK}
 use Rattle.kmer.specs.Calls.{packCall}
+use Rattle.kmer.proofs.Bounds.{ok-bounds}
 use Rattle.kmer.proofs.Verdicts.{answers-refusal}
 use borrow.Author.Needs.{needs}
 use Rattle.kmer.proofs.Kmer.from_ascii.Statement.{statement}
@@ -31,7 +30,7 @@ returns-2 c =
 pack-requires : tie.Need-pack-requires
 pack-requires c κs =
     let k = c .before .before .before .before .args .k in
-    (leb-true k 63 (both (leb 1 k) (leb k 63) (sym (c .before .before .supported .ensures) ∙ not-false _ (c .before .if1 .left)) .1), c .if2 .left)
+    (ok-bounds k (sym (c .before .before .supported .ensures) ∙ not-false _ (c .before .if1 .left)) .1, c .if2 .left)
 
 returns-3 : tie.Need-returns-3
 unfolding packCall

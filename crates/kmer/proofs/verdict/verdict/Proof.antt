@@ -1,8 +1,7 @@
 -- Each test, in the order of `onKmer`, picks its answer. Assumes nothing.
 use mathlib.Core.Path.{sym, _∙_}
-use borrow.Author.Tests.{not-true, not-false, leb-true}
-use lib.Dec.{leb}
-use Rattle.lemmas.proofs.Tests.{both}
+use borrow.Author.Tests.{not-true, not-false}
+use Rattle.kmer.proofs.Bounds.{ok-bounds}
 use borrow.Author.Needs.{needs}
 use Rattle.kmer.proofs.verdict.verdict.Statement.{statement}
 use Rattle.kmer.proofs.verdict.verdict.Tie as tie
@@ -13,7 +12,7 @@ returns c = sym (simp (sym (c .before .supported .ensures) ∙ not-true _ (c .if
 is-below-requires : tie.Need-is-below-requires
 is-below-requires c κs =
     let k = c .before .before .args .k in
-    leb-true k 63 (both (leb 1 k) (leb k 63) (sym (c .before .supported .ensures) ∙ not-false _ (c .if1 .left)) .1)
+    ok-bounds k (sym (c .before .supported .ensures) ∙ not-false _ (c .if1 .left)) .1
 
 returns-2 : tie.Need-returns-2
 returns-2 c =

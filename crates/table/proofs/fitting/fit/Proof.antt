@@ -3,7 +3,8 @@ use mathlib.Core.Path.{sym, _∙_}
 use mathlib.Core.Bool.{true, false}
 use native.Mathlib.Omega.{arith}
 use borrow.Author.Needs.{needs}
-use Rattle.table.proofs.Verdict.{ok, fit-refused, fit-over, fit-keys}
+use Rattle.kmer.proofs.Bounds.{bounds-ok}
+use Rattle.table.proofs.Verdict.{fit-refused, fit-over, fit-keys}
 use Rattle.table.proofs.fitting.fit.Statement.{statement}
 use Rattle.table.proofs.fitting.fit.Tie as tie
 
@@ -24,7 +25,7 @@ returns-3 c =
 
 keys-fit-requires : tie.Need-keys-fit-requires
 keys-fit-requires c κs =
-    (ok (c .before .before .before .before .before .before .args .k) (omega arith) (omega arith), omega (arith, c .before .capacity .ensures))
+    (bounds-ok (c .before .before .before .before .before .before .args .k) (omega arith) (omega arith), omega (arith, c .before .capacity .ensures))
 
 returns-4 : tie.Need-returns-4
 returns-4 c =
