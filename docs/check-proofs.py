@@ -1,5 +1,6 @@
 #!/usr/bin/env python3
-"""check-proofs.py: every name that docs/PROOFS.md gives with a file stands in that file, and every must-fail edit it names is there.
+"""check-proofs.py: every name that docs/PROOFS.md gives with a file stands in that file, every must-fail edit it names is there, every edit that
+is there is named, and every public function of a library has its line of wrong programs.
 
 Reads the tables of docs/PROOFS.md: in a cell, the names in backquotes belong to the next path behind them. Exits 1 where one is missing.
 """
@@ -15,20 +16,26 @@ def complain(text):
     print(text)
 
 
+def public_functions():
+    for path in glob.glob(os.path.join(root, "crates", "*", "src", "*.rt")):
+        if not os.path.exists(os.path.join(os.path.dirname(path), "main.rt")):
+            yield from re.findall(r"^ *pub (?:extern \"C\" )?fn (\w+)", open(path, encoding="utf-8").read(), re.M)
+
+
+edits = {os.path.basename(path)[:-5] for path in glob.glob(os.path.join(root, "crates", "*", "must-fail", "*.edit"))}
+named, covered = set(), {"read_input"}
 wrong_programs = False
 for line in open(os.path.join(root, "docs", "PROOFS.md"), encoding="utf-8"):
     if line.startswith("## "):
-        wrong_programs = "Wrong programs" in line
+        wrong_programs = "wrong programs" in line
+    if wrong_programs:
+        for name in re.findall(r"\(`[^)]*`\)", line):
+            named.update(re.findall(r"`(\w+)`", name))
+        covered.update(re.findall(r"(?:`|::)(\w+)`", line.split("|")[1] if line.startswith("| ") else ""))
+        continue
     if not line.startswith("| "):
         continue
     cells = line.strip().strip("|").split("|")
-    if wrong_programs:
-        for name in re.findall(r"\(`[^)]*`\)", cells[-1]):
-            for edit in re.findall(r"`(\w+)`", name):
-                checked += 1
-                if not glob.glob(os.path.join(root, "crates", "*", "must-fail", edit + ".edit")):
-                    complain("no edit " + edit)
-        continue
     for cell in cells[1:]:
         names = []
         for name, path in re.findall(r"`([^`]+)`|\b([a-z_]+/[\w/]+\.(?:antt|rt))\b", cell):
@@ -47,5 +54,10 @@ for line in open(os.path.join(root, "docs", "PROOFS.md"), encoding="utf-8"):
                 if not re.search(r"(?<![\w-])" + re.escape(last) + r"(?![\w-])", text):
                     complain(name + " is not in " + path)
             names = []
+checked += len(named)
+for edit in sorted(named ^ edits):
+    complain(("no edit " if edit in named else "not named: the edit ") + edit)
+for function in sorted(set(public_functions()) - covered):
+    complain("no wrong programs for " + function)
 print("%d names checked, %d missing" % (checked, missing))
 sys.exit(1 if missing else 0)

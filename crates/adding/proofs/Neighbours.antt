@@ -1,21 +1,30 @@
--- The bases before and after a window, and a vertex's counters with them counted. Assumes nothing.
-use mathlib.Core.Path.{_≡_, refl}
-use mathlib.Core.Bool.{Bool, true, false, cond}
+-- The bases before and after a window, as they are read from its label. Assumes nothing.
+use mathlib.Core.Path.{_≡_, refl, sym, _∙_}
+use mathlib.Core.Bool.{Bool, true, false, cond, not}
 use mathlib.Core.List.{List}
-use Prim.Native.Nat.{ℕ, zero, suc, _+_, _-_, _<_, _≤_}
+use Prim.Native.Nat.{ℕ, zero, suc, _+_, _-_, _*_, _<_, _≤_}
 use native.Mathlib.Omega.{arith}
 use lib.Dec.{ltb, eqb}
 use lib.ListN.{length, getD}
-use borrow.Author.Tests.{ltb-true, ltb-false, lt-ltb, le-ltb, eq-eqb, ne-eqb}
-use Rattle.lemmas.proofs.Tests.{choose}
-use Rattle.dna.specs.Answer.{gives}
-use Rattle.dna.specs.Letters.{codeOf, complement}
-use Rattle.kmer.specs.Kmer.{canon}
+use borrow.Author.Tests.{ltb-true, ltb-false, lt-ltb, le-ltb, eqb-true, eq-eqb, ne-eqb}
+use Rattle.dna.specs.Letters.{codeOf, complement, validBits}
+use Rattle.dna.proofs.Letters.{valid-bits}
+use Rattle.kmer.specs.Kmer.{canon, isCanon}
 use Rattle.kmer.proofs.Windows.{Bases, bases-at}
-use Rattle.state.specs.Counted.{Kind, updateCall}
-use Rattle.state.proofs.Slots.{update-done}
 use Rattle.graph.specs.Sightings.{sameCanonical, window, predecessor, successor}
-use Rattle.adding.specs.Says.{sightedWord}
+use Rattle.adding.specs.Batch.{codeAt}
+
+-- Two numbers of which neither is the smaller one are the same.
+module _ (x y : ℕ) {s : Bool} (es : s ≡ ltb x y) where
+  pub less-differs : s ≡ true → false ≡ eqb x y
+  less-differs e = sym (ne-eqb x y (λ z. omega (arith, ltb-true x y (sym es ∙ e))))
+
+  pub same-numbers : {t : Bool} → s ≡ false → t ≡ ltb y x → not t ≡ eqb x y
+  same-numbers e et = rw et (go (ltb y x) refl (ltb-false x y (sym es ∙ e)))
+    where
+      go : (t : Bool) → ltb y x ≡ t → y ≤ x → not t ≡ eqb x y
+      go true q l = sym (ne-eqb x y (λ z. omega (arith, ltb-true y x q)))
+      go false q l = sym (eq-eqb x y (omega (arith, ltb-false y x q)))
 
 module _ (K : ℕ) (label : List ℕ) where
   pub first-none : (o : ℕ) → o ≡ 0 → 5 ≡ predecessor sameCanonical K label o
@@ -23,25 +32,15 @@ module _ (K : ℕ) (label : List ℕ) where
   first-none zero e = refl
   first-none (suc o) e = absurd (omega arith)
 
-  module _ (o x y : ℕ) (n : o ≡ 0 → ⊥) (ex : x ≡ canon K (window K label (o - 1))) (ey : y ≡ canon K (window K label o)) where
-    predecessor-is : (t : Bool) → eqb x y ≡ t → cond t 5 (codeOf (getD label (o - 1) 0)) ≡ predecessor sameCanonical K label o
-    unfolding predecessor
-    predecessor-is t e = go o n ex ey
-      where
-        go : (o : ℕ) → (o ≡ 0 → ⊥) → x ≡ canon K (window K label (o - 1)) → y ≡ canon K (window K label o)
-            → cond t 5 (codeOf (getD label (o - 1) 0)) ≡ predecessor sameCanonical K label o
-        go zero n ex ey = absurd (n refl)
-        go (suc j) n ex ey =
-            let d : suc j - 1 ≡ j = omega arith in
-            let f : x ≡ canon K (window K label j) = rw d at ex in
-            rw (d, ← f, ← ey, e)
-
-    -- Two windows with the same canonical k-mer, by the tests of its order.
-    pub same-none : ltb x y ≡ false → ltb y x ≡ false → 5 ≡ predecessor sameCanonical K label o
-    same-none a b = predecessor-is true (eq-eqb x y (omega (arith, ltb-false x y a, ltb-false y x b)))
-
-    pub other-counts : (x ≡ y → ⊥) → codeOf (getD label (o - 1) 0) ≡ predecessor sameCanonical K label o
-    other-counts d = predecessor-is false (ne-eqb x y d)
+  -- By whether the window before has the same canonical k-mer.
+  pub predecessor-is : (o x y : ℕ) → (o ≡ 0 → ⊥) → ((j : ℕ) → o ≡ suc j → x ≡ canon K (window K label j))
+      → y ≡ canon K (window K label o) → (t : Bool) → eqb x y ≡ t
+      → cond t 5 (codeOf (getD label (o - 1) 0)) ≡ predecessor sameCanonical K label o
+  unfolding predecessor
+  predecessor-is zero x y n ex ey t e = absurd (n refl)
+  predecessor-is (suc j) x y n ex ey t e =
+      let d : suc j - 1 ≡ j = omega arith in
+      rw (d, ← ex j refl, ← ey, e)
 
   pub next-counts : (o : ℕ) → o + K < length label → codeOf (getD label (o + K) 0) ≡ successor K label o
   unfolding successor
@@ -51,33 +50,28 @@ module _ (K : ℕ) (label : List ℕ) where
   unfolding successor
   last-none o h = rw (le-ltb (o + K) (length label) h)
 
-  -- Neither is N in a label of bases.
-  module _ (b : Bases label) where
-    pub predecessor-read : (o : ℕ) → o + K ≤ length label → predecessor sameCanonical K label o ≡ 4 → ⊥
-    unfolding predecessor
-    predecessor-read zero h = λ e. omega arith
-    predecessor-read (suc j) h =
-        choose (λ (c : ℕ). c ≡ 4 → ⊥) (sameCanonical K (window K label j) (window K label (suc j))) (λ t e. omega arith)
-        (λ t e. omega (arith, bases-at label j (omega arith) b))
+-- A byte of a label of bases has its code in two of its bits.
+pub bits-code : (label : List ℕ) (i : ℕ) → i < length label → Bases label → getD label i 0 < 256
+    → validBits (getD label i 0) ≡ codeOf (getD label i 0)
+bits-code label i h b l =
+    eqb-true (validBits (getD label i 0)) (codeOf (getD label i 0))
+    (valid-bits (getD label i 0) l ∙ lt-ltb (codeOf (getD label i 0)) 4 (bases-at label i h b))
 
-    pub successor-read : (o : ℕ) → successor K label o ≡ 4 → ⊥
-    unfolding successor
-    successor-read o =
-        choose (λ (c : ℕ). c ≡ 4 → ⊥) (ltb (o + K) (length label))
-        (λ t e. omega (arith, bases-at label (o + K) (ltb-true (o + K) (length label) t) b)) (λ t e. omega arith)
-
-complement-read : (c : ℕ) → (c ≡ 4 → ⊥) → complement c ≡ 4 → ⊥
+pub complement-is : (c : ℕ) → c < 4 → 3 - c ≡ complement c
 unfolding complement
-complement-read c n = choose (λ (d : ℕ). d ≡ 4 → ⊥) (ltb c 4) (λ t e. omega arith) (λ t. n)
+complement-is c h = rw (lt-ltb c 4 h)
 
--- Both neighbours counted, as the window is seen.
-module _ (κ : Kind) (w p q : ℕ) (np : p ≡ 4 → ⊥) (nq : q ≡ 4 → ⊥) where
-  pub straight-done : {s : Bool} → s ≡ true → updateCall κ w p q ≡ gives (sightedWord κ s p q w)
-  unfolding sightedWord
-  straight-done e = rw e (update-done κ w p q np nq)
+pub complement-kept : (c : ℕ) → 4 ≤ c → c ≡ complement c
+unfolding complement
+complement-kept c h = rw (le-ltb c 4 h)
 
-  pub turned-done : {s : Bool} (p′ q′ : ℕ) → p′ ≡ complement p → q′ ≡ complement q → s ≡ false
-      → updateCall κ w q′ p′ ≡ gives (sightedWord κ s p q w)
-  unfolding sightedWord
-  turned-done p′ q′ ep eq e =
-      rw (ep, eq, e) (update-done κ w (complement q) (complement p) (complement-read q nq) (complement-read p np))
+-- As the window is seen.
+module _ (K : ℕ) (label : List ℕ) (i : ℕ) {p q : ℕ} (ep : p ≡ predecessor sameCanonical K label i) (eq : q ≡ successor K label i)
+    {s : Bool} (es : s ≡ isCanon K (window K label i)) where
+  pub straight-code : s ≡ true → p + 8 * q ≡ codeAt K label i
+  unfolding codeAt
+  straight-code e = let t : isCanon K (window K label i) ≡ true = sym es ∙ e in rw (ep, eq, t)
+
+  pub turned-code : s ≡ false → {p′ q′ : ℕ} → p′ ≡ complement p → q′ ≡ complement q → q′ + 8 * p′ ≡ codeAt K label i
+  unfolding codeAt
+  turned-code e fp fq = let t : isCanon K (window K label i) ≡ false = sym es ∙ e in rw (fp, fq, ep, eq, t)

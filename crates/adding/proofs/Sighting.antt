@@ -2,20 +2,21 @@
 use mathlib.Core.Path.{_≡_, refl, sym, ap, _∙_}
 use mathlib.Core.Bool.{Bool, true, false, cond}
 use mathlib.Core.List.{List, [], _∷_, _++_}
-use Prim.Native.Nat.{ℕ, _+_, _<_}
+use Prim.Native.Nat.{ℕ, _+_, _*_, _≤_, _<_}
 use lib.Dec.{ltb}
 use lib.ListN.{length, getD, set}
 use lib.Seq.{getD-set-same, set-getD, set-set}
 use Rattle.dna.specs.Letters.{complement}
-use Rattle.kmer.specs.Kmer.{canon, isCanon}
+use Rattle.kmer.specs.Kmer.{isCanon}
 use Rattle.state.specs.declared.Side.{Side}
 use Rattle.state.specs.declared.Side.the-variants.{Front, Back}
-use Rattle.state.specs.Counted.{Kind, raise, counted, slotOf}
+use Rattle.state.specs.Counted.{Kind, fourBits, raise, counted, slotOf}
 use Rattle.graph.specs.Table.{Table, rank, sight}
-use Rattle.graph.specs.Sightings.{Rule, window, predecessor, successor, sighting, sightingsAt}
+use Rattle.graph.specs.Sightings.{sameCanonical, window, predecessor, successor, sighting, sightingsAt}
 use Rattle.graph.specs.Adding.{sightAll}
 use Rattle.graph.proofs.Adding.{all-append}
-use Rattle.adding.specs.Says.{sightedWord}
+use Rattle.adding.specs.Batch.{kmerAt, codeAt, countedBy}
+use Rattle.adding.proofs.Coding.{predecessor-most, successor-most, turned-most, both-counted}
 
 -- A table with another word at a place.
 abbrev wordAt : Table → ℕ → ℕ → Table
@@ -51,9 +52,9 @@ module _ (κ : Kind) (t : Table) (x : ℕ) (inside : rank (t .keys) x < length (
       ∙ ap (λ (cs : List ℕ). record { keys = t .keys; counts = cs }) (set-set (t .counts) i w (counted κ w Back q))
 
 -- Those of one window.
-module _ (κ : Kind) (rule : Rule) (K : ℕ) (label : List ℕ) (o : ℕ) (t : Table) where
+module _ (K : ℕ) (label : List ℕ) (o : ℕ) (t : Table) where
   abbrev vertex : ℕ
-  vertex = canon K (window K label o)
+  vertex = kmerAt K label o
 
   abbrev place : ℕ
   place = rank (t .keys) vertex
@@ -62,22 +63,25 @@ module _ (κ : Kind) (rule : Rule) (K : ℕ) (label : List ℕ) (o : ℕ) (t : T
   old = getD (t .counts) place 0
 
   abbrev p : ℕ
-  p = predecessor rule K label o
+  p = predecessor sameCanonical K label o
 
   abbrev q : ℕ
   q = successor K label o
 
   pub window-sighted : place < length (t .counts)
-      → sightAll κ t (sightingsAt rule K label o) .counts
-      ≡ set (t .counts) place (sightedWord κ (isCanon K (window K label o)) p q old)
-  unfolding sightingsAt sightedWord
+      → sightAll fourBits t (sightingsAt sameCanonical K label o) .counts ≡ set (t .counts) place (countedBy (codeAt K label o) old)
+  unfolding sightingsAt codeAt
   window-sighted h = ap (λ (u : Table). u .counts) (go (isCanon K (window K label o)))
     where
+      two : (x y : ℕ) → x ≤ 5 → y ≤ 5
+          → sightAll fourBits t (sighting vertex Front x ++ sighting vertex Back y) ≡ wordAt t place (countedBy (x + 8 * y) old)
+      two x y hx hy = two-sides fourBits t vertex h x y ∙ ap (wordAt t place) (sym (both-counted x y hx hy old))
+
       go : (s : Bool)
-          → sightAll κ t
+          → sightAll fourBits t
           (cond s (sighting vertex Front p ++ sighting vertex Back q)
           (sighting vertex Front (complement q) ++ sighting vertex Back (complement p)))
-          ≡ wordAt t place
-          (cond s (counted κ (counted κ old Front p) Back q) (counted κ (counted κ old Front (complement q)) Back (complement p)))
-      go true = two-sides κ t vertex h p q
-      go false = two-sides κ t vertex h (complement q) (complement p)
+          ≡ wordAt t place (countedBy (cond s (p + 8 * q) (complement q + 8 * complement p)) old)
+      go true = two p q (predecessor-most K label o) (successor-most K label o)
+      go false =
+          two (complement q) (complement p) (turned-most q (successor-most K label o)) (turned-most p (predecessor-most K label o))

@@ -1,23 +1,20 @@
 -- What adding answers in document 01's numbers, and what its parts say. Assumes nothing.
-use Prim.Native.Nat.{ℕ, _/_, _≤_, _<_}
+use Prim.Native.Nat.{ℕ, suc, _+_, _/_, _%_, _^_, _≤_, _<_}
 use mathlib.Core.Path.{_≡_}
-use mathlib.Core.Bool.{Bool, true, cond}
+use mathlib.Core.Bool.{true}
 use mathlib.Core.List.{List, [], _∷_}
-use lib.ListN.{length}
-use Rattle.dna.specs.Text.{over}
+use lib.ListN.{length, getD}
 use Rattle.dna.specs.Answer.{Answer, gives, refuses}
-use Rattle.dna.specs.Letters.{complement}
 use Rattle.kmer.specs.Kmer.{canon, isCanon}
 use Rattle.kmer.specs.Says.{valueOf}
 use Rattle.kmer.proofs.Windows.{Bases}
-use Rattle.state.specs.Counted.{Kind, counted}
-use Rattle.state.specs.declared.Side.the-variants.{Front, Back}
-use Rattle.graph.specs.Table.{Table, keysOf, wordsOf, capacity, fit, fitFrom, stored}
+use Rattle.graph.specs.Table.{keysOf, fit, fitFrom, rank}
 use Rattle.graph.specs.Sightings.{window, windows}
-use Rattle.graph.specs.Adding.{Edges, Added, storeWindows}
-use Rattle.table.specs.declared.Found.{Found}
-use Rattle.table.specs.declared.Found.the-variants.{At, Gap}
-use Rattle.table.specs.Calls.{Storing}
+use Rattle.graph.specs.Adding.{Edges, Added}
+use Rattle.table.specs.declared.JoinAnswer.{JoinAnswer}
+use Rattle.table.specs.declared.JoinAnswer.the-variants as join
+use Rattle.keysort.specs.Rows.{keyAt}
+use Rattle.adding.specs.Batch.{codeAt}
 use Rattle.adding.specs.declared.Bad.{Bad}
 use Rattle.adding.specs.declared.Bad.the-variants as bad
 use Rattle.adding.specs.declared.Seen.{Seen}
@@ -32,6 +29,12 @@ addAnswer (add.InvalidBase place byte) = refuses 3 (place ∷ byte ∷ [])
 addAnswer (add.TooLong n) = refuses 4 (n ∷ [])
 addAnswer add.Unfit = refuses 5 []
 addAnswer add.Full = refuses 6 []
+
+-- The answer once the new vertices are put in, or why they are not.
+abbrev pub joinedAnswer : ℕ → JoinAnswer → AddAnswer
+joinedAnswer edges (join.Joined n) = add.Added edges n
+joinedAnswer edges join.Full = add.Full
+joinedAnswer edges join.Misplaced = add.Unfit
 
 -- A call that adds: its answer, and the slices at exit.
 pub record Adds (r : AddAnswer) (keys counts : List ℕ) (a : Added) : Type 0 where
@@ -57,45 +60,67 @@ pub record Addable (K : ℕ) (label : List ℕ) (n : ℕ) (keys counts : List �
   pub given : Given K label
   pub fits : fit K n keys counts ≡ true
 
--- How many vertices are stored once all windows of a label are, whatever the counts.
-abbrev pub storedAfter : ℕ → List ℕ → List ℕ → ℕ
-storedAfter K label ks = length (storeWindows K label (record { keys = ks; counts = [] }) (windows K label) .keys)
-
--- Its new k-mers have room in the slices.
-pub record Roomy (K : ℕ) (label : List ℕ) (n : ℕ) (keys counts : List ℕ) : Type 0 where
-  pub addable : Addable K label n keys counts
-  pub enough : storedAfter K label (keysOf n keys) ≤ capacity keys counts
-
--- All its k-mers are stored.
-pub record Ready (K : ℕ) (label : List ℕ) (n : ℕ) (keys counts : List ℕ) : Type 0 where
-  pub addable : Addable K label n keys counts
-  pub there : (i : ℕ) → i < windows K label → stored (keysOf n keys) (canon K (window K label i)) ≡ true
-
--- Beside the slice with a fit table's keys, two more have room for a k-mer of each window.
-pub record Spare (K : ℕ) (label : List ℕ) (n : ℕ) (keys new-keys new-counts : List ℕ) : Type 0 where
+-- A label and the slice with a fit table's keys; beside it slices with room for each window.
+pub record Spare (K : ℕ) (label : List ℕ) (n : ℕ) (keys notes places new-keys offsets : List ℕ) : Type 0 where
   pub given : Given K label
   pub fits : fitFrom K 0 (keysOf n keys) ≡ true
   pub within : n ≤ length keys / 2
-  pub room-keys : 4096 ≤ length new-keys / 2
-  pub room-counts : 4096 ≤ length new-counts
+  pub few : n ≤ 65536
+  pub room-notes : windows K label ≤ length notes
+  pub room-places : windows K label ≤ length places
+  pub room-keys : windows K label ≤ length new-keys / 2
+  pub room-offsets : windows K label ≤ length offsets
 
 -- Window i of a label.
 pub record Sees (K : ℕ) (label : List ℕ) (i : ℕ) (r : Seen) : Type 0 where
   pub kmer : valueOf (r .kmer) ≡ canon K (window K label i)
   pub straight : r .straight ≡ isCanon K (window K label i)
 
--- A vertex's word of counters once the base before a window of it and the base after are counted.
-unfoldable pub sightedWord : Kind → Bool → ℕ → ℕ → ℕ → ℕ
-sightedWord κ straight p q w =
-    cond straight (counted κ (counted κ w Front p) Back q) (counted κ (counted κ w Front (complement q)) Back (complement p))
+-- x is the canonical k-mer of the window before window i, where there is one, and y that of window i.
+pub record Follows (K : ℕ) (label : List ℕ) (i x y : ℕ) : Type 0 where
+  pub previous : (j : ℕ) → i ≡ suc j → x ≡ canon K (window K label j)
+  pub here : y ≡ canon K (window K label i)
 
--- The slices hold a table of n vertices, and past it what they held.
-pub record Holds (keys₀ counts₀ : List ℕ) (t : Table) (n : ℕ) (keys counts : List ℕ) : Type 0 where
-  pub number : n ≡ length (t .keys)
-  pub keys-hold : keys ≡ over (wordsOf (t .keys)) keys₀
-  pub counts-hold : counts ≡ over (t .counts) counts₀
+-- A note's two neighbours, each a base or E.
+pub record Coded (note : ℕ) : Type 0 where
+  pub front : note % 8 ≤ 5
+  pub front-known : note % 8 ≡ 4 → ⊥
+  pub back : note / 8 % 8 ≤ 5
+  pub back-known : note / 8 % 8 ≡ 4 → ⊥
 
--- A k-mer noted in the second table, unless it is found in the first; s is what storing it in the second comes to.
-pub record Notes (f : Found) (n : ℕ) (keys counts : List ℕ) (s : Storing) (r : ℕ) (keys′ counts′ : List ℕ) : Type 0 where
-  pub there : (i : ℕ) → f ≡ At i → (r ≡ n) × (keys′ ≡ keys) × (counts′ ≡ counts)
-  pub new : (i m : ℕ) → f ≡ Gap i → s .answer ≡ gives m → (r ≡ m) × (keys′ ≡ s .keys) × (counts′ ≡ s .counts)
+-- Slices with q rows of new k-mers, whose offsets lead to notes and places, and room for as many vertices.
+pub record Rowed (q : ℕ) (notes places offsets new-keys new-places new-counts : List ℕ) : Type 0 where
+  pub few : q ≤ 4096
+  pub keys-there : q ≤ length new-keys / 2
+  pub offsets-there : q ≤ length offsets
+  pub room-places : q ≤ length new-places
+  pub room-counts : q ≤ length new-counts
+  pub note-there : (i : ℕ) → i < q → getD offsets i 0 < length notes
+  pub place-there : (i : ℕ) → i < q → getD offsets i 0 < length places
+  pub coded : (i : ℕ) → i < q → Coded (getD notes (getD offsets i 0) 0)
+
+-- The rows are of windows of a label and in the order of their k-mers, each with its window's note and the place of its k-mer.
+pub record Listed (K : ℕ) (label ks : List ℕ) (q : ℕ) (notes places offsets new-keys : List ℕ) : Type 0 where
+  pub ascends : (i j : ℕ) → i ≤ j → j < q → keyAt new-keys i ≤ keyAt new-keys j
+  pub below : (i : ℕ) → i < q → keyAt new-keys i < 4 ^ K
+  pub canonical : (i : ℕ) → i < q → isCanon K (keyAt new-keys i) ≡ true
+  pub noted : (i : ℕ) → i < q → getD notes (getD offsets i 0) 0 ≡ codeAt K label (getD offsets i 0) + 64
+  pub placed : (i : ℕ) → i < q → getD places (getD offsets i 0) 0 ≡ rank ks (keyAt new-keys i)
+
+-- Slices with m notes and places, where a note below 64 has two neighbours and the place of a counter.
+pub record Known (m : ℕ) (notes places counts : List ℕ) : Type 0 where
+  pub few : m ≤ 4096
+  pub notes-there : m ≤ length notes
+  pub places-there : m ≤ length places
+  pub coded : (i : ℕ) → i < m → getD notes i 0 < 64 → Coded (getD notes i 0)
+  pub counter-there : (i : ℕ) → i < m → getD notes i 0 < 64 → getD places i 0 < length counts
+
+-- A label to be added, and slices with room for each of its windows.
+pub record Roomy (K : ℕ) (label : List ℕ) (n : ℕ) (keys counts notes places offsets new-keys new-places new-counts : List ℕ) : Type 0 where
+  pub addable : Addable K label n keys counts
+  pub room-notes : windows K label ≤ length notes
+  pub room-places : windows K label ≤ length places
+  pub room-offsets : windows K label ≤ length offsets
+  pub room-keys : windows K label ≤ length new-keys / 2
+  pub room-new-places : windows K label ≤ length new-places
+  pub room-new-counts : windows K label ≤ length new-counts

@@ -1,16 +1,21 @@
 // One label added.
 ghost use mathlib.Core.Path.{_≡_};
 ghost use mathlib.Core.List.{[]};
+ghost use Prim.Native.Nat.{_≤_};
+ghost use lib.ListN.{length};
 ghost use Rattle.dna.specs.Letters.{firstBad};
 ghost use Rattle.state.specs.Counted.{fourBits};
-ghost use Rattle.graph.specs.Sightings.{sameCanonical};
+ghost use Rattle.graph.specs.Table.{keysOf};
+ghost use Rattle.graph.specs.Sightings.{sameCanonical, windows};
 ghost use Rattle.graph.specs.Adding.{addLabel, addBases};
-ghost use Rattle.adding.specs.Says.{Addable, Adds, placeIn};
+ghost use Rattle.adding.specs.Batch.{Looked, Grouped, sortedNew};
+ghost use Rattle.adding.specs.Says.{Addable, Spare, Roomy, Adds, joinedAnswer, placeIn};
 use super::AddAnswer;
 use super::Bad;
 use super::counting;
-use super::storing;
+use super::gathering;
 use table::FitAnswer;
+use table::JoinAnswer;
 
 fn first_bad(s: &[u8]) -> Bad
     ensures { λ r. ⌜ placeIn r ≡ firstBad 0 (now (s .entry)) ⌝ }
@@ -26,23 +31,144 @@ fn first_bad(s: &[u8]) -> Bad
     Bad::Nowhere
 }
 
-// A label of bases: its k-mers are stored, where they have room, and then its sightings counted.
+// The new k-mers of a label made vertices by themselves, sorted and counted, and how many they are; of each window what is noted
+// and the place of its k-mer.
+fn make_vertices(
+    k: usize,
+    label: &[u8],
+    n: usize,
+    keys: &[u64],
+    notes: &mut [u8],
+    places: &mut [u32],
+    offsets: &mut [u32],
+    new_keys: &mut [u64],
+    new_places: &mut [u32],
+    new_counts: &mut [u32],
+) -> usize
+    requires { ⌜ Spare k (now label) n (now keys) (now notes) (now places) (now «new_keys») (now offsets) × (windows k (now label) ≤ length (now «new_places»)) × (windows k (now label) ≤ length (now «new_counts»)) ⌝ }
+    ensures { λ r. ⌜ Looked k (now (label .entry)) (keysOf n (now (keys .entry))) (windows k (now (label .entry))) (now (notes .exit)) (now (places .exit)) × Grouped k (now (label .entry)) (keysOf n (now (keys .entry))) (sortedNew k (now (label .entry)) (keysOf n (now (keys .entry)))) r (now («new_keys» .exit)) (now («new_places» .exit)) (now («new_counts» .exit)) ⌝ }
+{
+    let rows = gathering::gather(k, label, n, keys, notes, places, new_keys, offsets);
+    let _sorted = keysort::sort_rows(new_keys, offsets, rows);
+    counting::group(
+        rows,
+        notes,
+        places,
+        offsets,
+        new_keys,
+        new_places,
+        new_counts,
+    )
+}
+
+fn joined_answer(edges: usize, done: JoinAnswer) -> AddAnswer
+    ensures { λ r. ⌜ r ≡ joinedAnswer edges done ⌝ }
+{
+    match done {
+        JoinAnswer::Joined(stored) => AddAnswer::Added { edges, stored },
+        JoinAnswer::Full => AddAnswer::Full,
+        JoinAnswer::Misplaced => AddAnswer::Unfit,
+    }
+}
+
+// A label of bases: if its new vertices have room, the windows of the others are counted where they stand, and the new ones are
+// put in all at once.
+fn add_with(
+    k: usize,
+    n: usize,
+    keys: &mut [u64],
+    counts: &mut [u32],
+    label: &[u8],
+    notes: &mut [u8],
+    places: &mut [u32],
+    offsets: &mut [u32],
+    new_keys: &mut [u64],
+    new_places: &mut [u32],
+    new_counts: &mut [u32],
+) -> AddAnswer
+    requires { ⌜ Roomy k (now label) n (now keys) (now counts) (now notes) (now places) (now offsets) (now «new_keys») (now «new_places») (now «new_counts») ⌝ }
+    ensures { λ r. ⌜ Adds r (now (keys .exit)) (now (counts .exit)) (addBases fourBits sameCanonical k n (now (keys .entry)) (now (counts .entry)) (now (label .entry)) []) ⌝ }
+{
+    let edges = label.len() - k;
+    let new = make_vertices(
+        k,
+        label,
+        n,
+        keys,
+        notes,
+        places,
+        offsets,
+        new_keys,
+        new_places,
+        new_counts,
+    );
+    if table::capacity(keys, counts) < n + new {
+        return AddAnswer::Full;
+    }
+    counting::raise_known(edges + 1, notes, places, counts);
+    let done = table::join(n, keys, counts, new, new_places, new_keys, new_counts);
+    joined_answer(edges, done)
+}
+
+// At most 512 windows: room for more would take longer to clear than to use.
+fn add_short(k: usize, n: usize, keys: &mut [u64], counts: &mut [u32], label: &[u8]) -> AddAnswer
+    requires { ⌜ Addable k (now label) n (now keys) (now counts) × (windows k (now label) ≤ 512) ⌝ }
+    ensures { λ r. ⌜ Adds r (now (keys .exit)) (now (counts .exit)) (addBases fourBits sameCanonical k n (now (keys .entry)) (now (counts .entry)) (now (label .entry)) []) ⌝ }
+{
+    let mut notes = [0u8; 512];
+    let mut places = [0u32; 512];
+    let mut offsets = [0u32; 512];
+    let mut new_keys = [0u64; 1024];
+    let mut new_places = [0u32; 512];
+    let mut new_counts = [0u32; 512];
+    add_with(
+        k,
+        n,
+        keys,
+        counts,
+        label,
+        &mut notes,
+        &mut places,
+        &mut offsets,
+        &mut new_keys,
+        &mut new_places,
+        &mut new_counts,
+    )
+}
+
+fn add_long(k: usize, n: usize, keys: &mut [u64], counts: &mut [u32], label: &[u8]) -> AddAnswer
+    requires { ⌜ Addable k (now label) n (now keys) (now counts) ⌝ }
+    ensures { λ r. ⌜ Adds r (now (keys .exit)) (now (counts .exit)) (addBases fourBits sameCanonical k n (now (keys .entry)) (now (counts .entry)) (now (label .entry)) []) ⌝ }
+{
+    let mut notes = [0u8; 4096];
+    let mut places = [0u32; 4096];
+    let mut offsets = [0u32; 4096];
+    let mut new_keys = [0u64; 8192];
+    let mut new_places = [0u32; 4096];
+    let mut new_counts = [0u32; 4096];
+    add_with(
+        k,
+        n,
+        keys,
+        counts,
+        label,
+        &mut notes,
+        &mut places,
+        &mut offsets,
+        &mut new_keys,
+        &mut new_places,
+        &mut new_counts,
+    )
+}
+
 fn add_bases(k: usize, n: usize, keys: &mut [u64], counts: &mut [u32], label: &[u8]) -> AddAnswer
     requires { ⌜ Addable k (now label) n (now keys) (now counts) ⌝ }
     ensures { λ r. ⌜ Adds r (now (keys .exit)) (now (counts .exit)) (addBases fourBits sameCanonical k n (now (keys .entry)) (now (counts .entry)) (now (label .entry)) []) ⌝ }
 {
-    let mut new_keys = [0u64; 8192];
-    let mut new_counts = [0u32; 4096];
-    let new = storing::count_new(k, label, n, keys, &mut new_keys, &mut new_counts);
-    if table::capacity(keys, counts) < n + new {
-        return AddAnswer::Full;
+    if label.len() - k < 512 {
+        return add_short(k, n, keys, counts, label);
     }
-    let stored = storing::store_windows(k, label, n, keys, counts);
-    counting::count_all(k, label, stored, keys, counts);
-    AddAnswer::Added {
-        edges: label.len() - k,
-        stored,
-    }
+    add_long(k, n, keys, counts, label)
 }
 
 // The label tested whole, then added: refusals 1, 5, 4, a label shorter than K, 3, 6.

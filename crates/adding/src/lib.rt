@@ -1,7 +1,7 @@
 // Adding labels to the lent table.
 mod counting;
+mod gathering;
 mod label;
-mod storing;
 mod windows;
 
 pub use label::add_label;

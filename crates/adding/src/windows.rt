@@ -1,14 +1,15 @@
 // A label's windows, one at a time.
 ghost use mathlib.Core.Path.{_≡_};
+ghost use mathlib.Core.Bool.{cond};
 ghost use Prim.Native.Nat.{_+_, _≤_};
+ghost use lib.Dec.{eqb};
 ghost use lib.ListN.{length};
-ghost use Rattle.dna.specs.Calls.{codeIn};
+ghost use Rattle.dna.specs.Letters.{complement};
 ghost use Rattle.kmer.specs.Says.{valueOf};
-ghost use Rattle.kmer.specs.Kmer.{canon};
-ghost use Rattle.graph.specs.Sightings.{sameCanonical, window, predecessor, successor};
-ghost use Rattle.adding.specs.Says.{Given, Sees};
+ghost use Rattle.graph.specs.Sightings.{sameCanonical, predecessor, successor};
+ghost use Rattle.adding.specs.Batch.{codeAt};
+ghost use Rattle.adding.specs.Says.{Given, Sees, Follows};
 use super::Seen;
-use dna::Base;
 use kmer::Kmer;
 
 // Window o, packed from the part of the label that starts at its offset.
@@ -25,32 +26,57 @@ pub(crate) fn see(k: usize, label: &[u8], o: usize) -> Seen
     }
 }
 
+pub(crate) fn is_same(x: Kmer, y: Kmer) -> bool
+    ensures { λ r. ⌜ r ≡ eqb (valueOf x) (valueOf y) ⌝ }
+{
+    if x.is_less(y) {
+        return false;
+    }
+    !y.is_less(x)
+}
+
 // The base before window o, whose canonical k-mer is here; E where there is none, or where the window before has the same.
-pub(crate) fn predecessor_of(k: usize, label: &[u8], o: usize, here: Kmer) -> Base
-    requires { ⌜ Given k (now label) × (o + k ≤ length (now label)) × (valueOf here ≡ canon k (window k (now label) o)) ⌝ }
-    ensures { λ r. ⌜ codeIn r ≡ predecessor sameCanonical k (now (label .entry)) o ⌝ }
+fn before_of(k: usize, label: &[u8], o: usize, previous: Kmer, here: Kmer) -> u8
+    requires { ⌜ Given k (now label) × (o + k ≤ length (now label)) × Follows k (now label) o (valueOf previous) (valueOf here) ⌝ }
+    ensures { λ r. ⌜ r ≡ predecessor sameCanonical k (now (label .entry)) o ⌝ }
 {
     if o == 0 {
-        return Base::E;
+        return 5;
     }
-    let at = o - 1;
-    let previous = see(k, label, at).kmer;
-    if !previous.is_less(here) {
-        if !here.is_less(previous) {
-            return Base::E;
-        }
+    if is_same(previous, here) {
+        return 5;
     }
-    Base::from_ascii(label[at])
+    dna::valid_ascii_base_bits(label[o - 1])
 }
 
 // The base after window o, E where there is none.
-pub(crate) fn successor_of(k: usize, label: &[u8], o: usize) -> Base
+fn after_of(k: usize, label: &[u8], o: usize) -> u8
     requires { ⌜ Given k (now label) × (o + k ≤ length (now label)) ⌝ }
-    ensures { λ r. ⌜ codeIn r ≡ successor k (now (label .entry)) o ⌝ }
+    ensures { λ r. ⌜ r ≡ successor k (now (label .entry)) o ⌝ }
 {
     let e = o + k;
     if e < label.len() {
-        return Base::from_ascii(label[e]);
+        return dna::valid_ascii_base_bits(label[e]);
     }
-    Base::E
+    5
+}
+
+fn other(code: u8) -> u8
+    ensures { λ r. ⌜ r ≡ complement code ⌝ }
+{
+    if code < 4 { 3 - code } else { code }
+}
+
+// Window o's neighbours in one number: seen canonical, its predecessor on Front and its successor on Back; otherwise the
+// successor's complement on Front and the predecessor's complement on Back.
+pub(crate) fn code_of(k: usize, label: &[u8], o: usize, previous: Kmer, seen: Seen) -> u8
+    requires { ⌜ Given k (now label) × (o + k ≤ length (now label)) × Sees k (now label) o seen × Follows k (now label) o (valueOf previous) (valueOf (seen .kmer)) ⌝ }
+    ensures { λ r. ⌜ r ≡ codeAt k (now (label .entry)) o ⌝ }
+{
+    let before = before_of(k, label, o, previous, seen.kmer);
+    let after = after_of(k, label, o);
+    if seen.straight {
+        return before + 8 * after;
+    }
+    other(after) + 8 * other(before)
 }

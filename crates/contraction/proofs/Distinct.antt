@@ -12,8 +12,9 @@ use Rattle.laws.proofs.Occurrences.{never-twice}
 use Rattle.laws.proofs.Indexed.{Some-kmer}
 use Rattle.laws.proofs.Always.{run-least, run-live}
 use Rattle.strands.proofs.Smaller.{lesser-kept}
-use Rattle.contraction.specs.Marks.{ends, keysFor, Ready, runIn}
-use Rattle.contraction.proofs.Marking.{keys-marks}
+use Rattle.marks.specs.Marks.{ends}
+use Rattle.contraction.specs.Ready.{keysFor, Ready, runIn}
+use Rattle.contraction.proofs.Still.{keys-marks}
 use Rattle.contraction.proofs.Apart.{Apart, Apart.alone, Apart.beside, each-map}
 
 -- ---- labels that each have a k-mer, of which none occurs twice

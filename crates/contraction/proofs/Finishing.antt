@@ -2,7 +2,7 @@
 use mathlib.Core.Path.{_≡_, refl, sym, ap, ap₂, _∙_}
 use mathlib.Core.Bool.{Bool, true, false, _||_}
 use mathlib.Core.List.{List, map}
-use Prim.Native.Nat.{ℕ, _%_}
+use Prim.Native.Nat.{ℕ, _≤_}
 use native.Mathlib.Omega.{arith}
 use lib.Dec.{ltb}
 use lib.ListN.{length, take, replicate, length-replicate}
@@ -14,15 +14,20 @@ use Rattle.state.specs.Counted.{fourBits}
 use Rattle.graph.specs.Table.{keysOf, tableOf}
 use Rattle.graph.specs.Labels.{Run, run}
 use Rattle.graph.specs.Contraction.{entries, sorted, endToEnd, endsIn, written, finish}
-use Rattle.contraction.specs.Marks.{markOf, Ready, runIn}
-use Rattle.contraction.specs.Says.{Contracts, Table, Surveys, Roomy, Unvisited, Lists, finishIn}
+use Rattle.marks.specs.Marks.{markOf, visits}
+use Rattle.contraction.specs.Ready.{Ready, runIn}
+use Rattle.contraction.specs.Says.{Contracts, Table, Surveys, Roomy, Lists, finishIn}
+use Rattle.contraction.specs.Trail.{trailIn, Trails}
 use Rattle.contraction.specs.declared.ContractAnswer.the-variants as answers
 use Rattle.dna.proofs.Overwriting.{over-all}
-use Rattle.contraction.proofs.Digested.{ready, clean, run-is, unvisited}
+use Rattle.contraction.proofs.Digested.{ready, run-is}
+use Rattle.marks.proofs.Marking.{ends-length}
+use Rattle.contraction.proofs.Still.{ready-still}
+use Rattle.contraction.proofs.Trailing.{run-same, trails-over}
 
 -- The marks are those that the table's words give, and all walks were followed over them.
 module _ (K cutoff : ℕ) (keys counts labels starts lengths ms₀ : List ℕ) (t : Table K keys counts ms₀) {ms : List ℕ}
-    (d : ms ≡ map (markOf fourBits cutoff) (take (length ms₀) counts)) {number bases : ℕ} {missing : Bool} {after : List ℕ}
+    (d : ms ≡ over (map (markOf fourBits cutoff) (take (length ms₀) counts)) ms₀) {number bases : ℕ} {missing : Bool} {after : List ℕ}
     (s : Surveys K keys ms (length ms) number bases missing after) where
   abbrev all : Run
   all = run K (keysOf (length ms₀) keys) (endsIn fourBits cutoff (tableOf (length ms₀) keys counts)) (length ms₀)
@@ -68,11 +73,7 @@ module _ (K cutoff : ℕ) (keys counts labels starts lengths ms₀ : List ℕ) (
         rw (missed-is, h, lacking-is, ← q, k)
         (record { answer = refl; labels-after = refl; starts-after = refl; lengths-after = refl; marks-after = zeros e l })
 
-    module _ {short : Bool} (q : short ≡ lacking) (k : short ≡ false) {ms₁ : List ℕ} (u : ms₁ ≡ map (λ m. m % 64) after) where
-      -- Without their visits, the marks are as they were before the walks.
-      back : ms₁ ≡ ms
-      back = u ∙ unvisited K cutoff keys counts ms₀ t d after (s .ends-kept)
-
+    module _ {short : Bool} (q : short ≡ lacking) (k : short ≡ false) where
       room : Roomy K keys ms (length labels) (length starts) (length lengths)
       room =
           let b : Bool = ltb (length labels) bases in
@@ -85,24 +86,35 @@ module _ (K cutoff : ℕ) (keys counts labels starts lengths ms₀ : List ℕ) (
             lengths-fit = omega (arith, ltb-false (length lengths) number (or-second (b || c) d (sym q ∙ k)), s .number);
           }
 
-      pub writable : Ready K keys ms₁ × Unvisited ms₁ × Roomy K keys ms₁ (length labels) (length starts) (length lengths)
-      writable = rw back (ready K cutoff keys counts ms₀ t d, clean K cutoff keys counts ms₀ t d, room)
+      -- The walks have left the ends as they were.
+      run-after : runIn K keys after (length after) ≡ runIn K keys ms (length ms)
+      run-after = run-same K keys ms after (s .ends-kept) (length after) ∙ ap (runIn K keys ms) (ends-length ms after (s .ends-kept))
+
+      pub writable : (slice : List ℕ) → 131072 ≤ length slice → {trail : List ℕ} → trail ≡ over (trailIn K keys ms (length ms)) slice
+          → Ready K keys after × Trails K keys after trail × Roomy K keys after (length labels) (length starts) (length lengths)
+      writable slice w e =
+          let r = ready K cutoff keys counts ms₀ t d in (
+            ready-still r (s .ends-kept),
+            trails-over r (s .ends-kept) slice (omega (arith, r .few)) e,
+            record { bases-fit = rw run-after (room .bases-fit); starts-fit = rw run-after (room .starts-fit); lengths-fit = rw run-after (room .lengths-fit) },
+          )
 
       pub contracted : {count : ℕ} {marks labels′ starts′ lengths′ : List ℕ}
-          → (count ≡ length (runIn K keys ms₁ (length ms₁) .labels)) × (marks ≡ runIn K keys ms₁ (length ms₁) .marks)
-          × Lists (runIn K keys ms₁ (length ms₁)) (sorted (entries 0 (runIn K keys ms₁ (length ms₁) .labels)))
+          → (count ≡ length (runIn K keys after (length after) .labels)) × (marks ≡ visits after)
+          × Lists (runIn K keys after (length after)) (sorted (entries 0 (runIn K keys after (length after) .labels)))
           labels labels′ starts starts′ lengths lengths′
           → length marks ≡ length ms₀
           → Contracts (answers.Contracted count bases) labels′ starts′ lengths′ marks
           (finishIn K cutoff (length ms₀) keys counts labels starts lengths ms₀)
       unfolding finish written
-      contracted w₀ l =
-          let w = rw (back, same) at w₀ in
+      contracted {marks = marks} w₀ l =
+          let w = rw (run-after ∙ same) at w₀ in
+          let m : marks ≡ all .marks = w .1 ∙ s .visits-after ∙ ap (λ (r : Run). r .marks) same in
           rw (missed-is, h, lacking-is, ← q, k)
           (record {
             answer = ap₂ (λ (n b : ℕ). gives (record { labels = n; bases = b })) (w .0) (sym bases-is);
             labels-after = w .2 .letters;
             starts-after = w .2 .starts-after;
             lengths-after = w .2 .lengths-after;
-            marks-after = w .1 ∙ sym (over-all (all .marks) ms₀ (sym (ap length (w .1)) ∙ l));
+            marks-after = m ∙ sym (over-all (all .marks) ms₀ (sym (ap length m) ∙ l));
           })

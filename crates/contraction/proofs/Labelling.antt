@@ -2,9 +2,10 @@
 use mathlib.Core.Path.{_≡_, refl, sym, ap, _∙_}
 use mathlib.Core.Bool.{Bool, true, false, cond, _||_}
 use mathlib.Core.List.{List, _++_, map}
-use Prim.Native.Nat.{ℕ, _+_}
+use Prim.Native.Nat.{ℕ, _+_, _≤_}
 use native.Mathlib.Omega.{arith}
 use lib.ListN.{length, getD, length-append, length-map}
+use lib.Seq.{length-paste}
 use Rattle.dna.specs.Letters.{letterOf, reverseComplement}
 use Rattle.dna.proofs.Reversal.{length-reverseComplement}
 use Rattle.kmer.specs.Kmer.{rc, letters}
@@ -16,10 +17,15 @@ use Rattle.graph.specs.declared.Step.the-variants.{Next, Stop, Missing}
 use Rattle.graph.specs.Walks.{Ends, Walk, walk, closed, missing}
 use Rattle.graph.specs.Labels.{spelt, labelOf, extract}
 use Rattle.laws.proofs.Plain.{lesser-length}
-use Rattle.contraction.specs.Marks.{ends, keysFor, walkIn, labelIn, Ready}
+use Rattle.marks.specs.Marks.{ends}
+use Rattle.contraction.specs.Ready.{keysFor, walkIn, labelIn, Ready}
 use Rattle.contraction.specs.Says.{Walks, Extracts}
+use Rattle.contraction.specs.Trail.{pieceIn}
+use Rattle.contraction.specs.declared.Extracted.{Extracted}
 use Rattle.contraction.specs.declared.Walked.{Walked}
-use Rattle.contraction.proofs.Marking.{ends-length, walk-still}
+use Rattle.marks.proofs.Marking.{ends-length}
+use Rattle.contraction.proofs.Still.{walk-still}
+use Rattle.contraction.proofs.Placing.{Placed}
 
 spelt-length : (K x : ℕ) (w : Walk) → length (spelt K x w) ≡ K + length (w .bases)
 spelt-length K x w =
@@ -61,9 +67,11 @@ module _ {K : ℕ} {keys ms : List ℕ} (r : Ready K keys ms) (a : ℕ) {b : Wal
       label-length K (keysFor ms keys) (ends ms) (getD (keysFor ms keys) a 0) B F
       ∙ ap (λ (t : Bool). cond t K (K + length (F .bases)) + length (B .bases)) (ap closed (sym (back .last)) ∙ c)
 
-  pub extracts-closed : closed (b .last) ≡ true → Extracts K keys ms a (record { bases = K + b .bases; missing = false }) ms₁
+  pub extracts-closed : closed (b .last) ≡ true → {trail trail′ : List ℕ} {at end : ℕ} → end ≡ at + length (pieceIn K keys ms a)
+      → Placed trail at (pieceIn K keys ms a) trail′
+      → Extracts K keys ms a (record { bases = K + b .bases; end = end; missing = false }) ms₁ trail at trail′
   unfolding extract
-  extracts-closed h =
+  extracts-closed h e p =
       let c : closed (B .last) ≡ true = ap closed (sym (back .last)) ∙ h in
       record {
         bases = omega (arith, label-long h, back .bases);
@@ -71,19 +79,22 @@ module _ {K : ℕ} {keys ms : List ℕ} (r : Ready K keys ms) (a : ℕ) {b : Wal
         ends-kept = back .ends-kept;
         visits-after = rw c (back .visits-after);
         few = omega (arith, back .few, r .few, ok-bounds K (r .ok) .1);
+        end = e;
+        walks = p .cells;
       }
 
   -- The Front walk starts from the marks that the Back walk left.
-  module _ {f : Walked} {ms₂ : List ℕ} (front : Walks K keys ms₁ a Front f ms₂) where
-    front-is : walkIn K keys ms₁ a Front ≡ F
-    front-is =
-        walk-still ms ms₁ (back .ends-kept) K keys a Front
-        ∙ ap (λ (m : List ℕ). walk K (keysFor ms keys) (ends ms) a Front m) (back .visits-after)
+  pub front-is : walkIn K keys ms₁ a Front ≡ F
+  front-is =
+      walk-still ms ms₁ (back .ends-kept) K keys a Front
+      ∙ ap (λ (m : List ℕ). walk K (keysFor ms keys) (ends ms) a Front m) (back .visits-after)
 
+  module _ {f : Walked} {ms₂ : List ℕ} (front : Walks K keys ms₁ a Front f ms₂) where
     pub extracts-open : closed (b .last) ≡ false → {t : Bool} → t ≡ (missing (b .last) || missing (f .last))
-        → Extracts K keys ms a (record { bases = K + f .bases + b .bases; missing = t }) ms₂
+        → {trail trail′ : List ℕ} {at end : ℕ} → end ≡ at + length (pieceIn K keys ms a) → Placed trail at (pieceIn K keys ms a) trail′
+        → Extracts K keys ms a (record { bases = K + f .bases + b .bases; end = end; missing = t }) ms₂ trail at trail′
     unfolding extract
-    extracts-open h {t} e =
+    extracts-open h {t} e q p =
         let c : closed (B .last) ≡ false = ap closed (sym (back .last)) ∙ h in
         let l : f .last ≡ F .last = front .last ∙ ap (λ (w : Walk). w .last) front-is in
         record {
@@ -92,4 +103,12 @@ module _ {K : ℕ} {keys ms : List ℕ} (r : Ready K keys ms) (a : ℕ) {b : Wal
           ends-kept = front .ends-kept ∙ back .ends-kept;
           visits-after = front .visits-after ∙ rw (front-is, c);
           few = omega (arith, back .few, front .few, ends-length ms ms₁ (back .ends-kept), r .few, ok-bounds K (r .ok) .1);
+          end = q;
+          walks = p .cells;
         }
+
+-- The trail keeps its length.
+pub extracts-length : {K : ℕ} {keys ms : List ℕ} {a : ℕ} {r : Extracted} {after trail : List ℕ} {at : ℕ} {trail′ : List ℕ}
+    → Extracts K keys ms a r after trail at trail′ → at + length (pieceIn K keys ms a) ≤ length trail → length trail′ ≡ length trail
+extracts-length {K} {keys} {ms} {a} {trail = trail} {at} x h =
+    ap length (x .walks) ∙ length-paste trail at (pieceIn K keys ms a) (length (pieceIn K keys ms a)) h (omega arith)

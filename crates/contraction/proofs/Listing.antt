@@ -10,7 +10,8 @@ use Rattle.graph.specs.Contraction.{Entry, entries, sorted, endToEnd}
 use Rattle.laws.specs.Demand.{Each}
 use Rattle.laws.proofs.Indexed.{entries-each}
 use Rattle.laws.proofs.Listed.{entries-right}
-use Rattle.contraction.specs.Marks.{visits, Ready, runIn}
+use Rattle.marks.specs.Marks.{visits}
+use Rattle.contraction.specs.Ready.{Ready, runIn}
 use Rattle.contraction.specs.Says.{Roomy, Lists, Writes, Normal, Ordered}
 use Rattle.contraction.proofs.Appending.{length-entries}
 use Rattle.contraction.proofs.Apart.{Apart, Apart.alone, Apart.beside, each-map, each-both}
@@ -30,8 +31,8 @@ entries-apart at (beside {x = l} f a) = beside (entries-each (λ m. l ≡ m → 
 
 -- ---- the labels of a run
 
-module _ (K : ℕ) (keys ms : List ℕ) (rd : Ready K keys ms) {count : ℕ} {after b₀ b s₀ s l₀ l : List ℕ}
-    (w : Writes K keys ms (length ms) count (length (endToEnd (runIn K keys ms (length ms) .labels))) after b₀ b s₀ s l₀ l) where
+module _ (K : ℕ) (keys ms : List ℕ) (rd : Ready K keys ms) {count : ℕ} {b₀ b s₀ s l₀ l : List ℕ}
+    (w : Writes K keys ms (length ms) count (length (endToEnd (runIn K keys ms (length ms) .labels))) b₀ b s₀ s l₀ l) where
   abbrev ls : List (List ℕ)
   ls = runIn K keys ms (length ms) .labels
 
@@ -57,13 +58,13 @@ module _ (K : ℕ) (keys ms : List ℕ) (rd : Ready K keys ms) {count : ℕ} {af
       (record { start = 0; label = [] }) s₀ l₀
       (omega (arith, length-entries 0 ls, o .starts-fit)) (omega (arith, length-entries 0 ls, o .lengths-fit)) named apart)
 
-  pub all-listed : {r : ℕ} {b₂ s₂ l₂ marks : List ℕ} → (r ≡ count) × (b₂ ≡ b) × Ordered b s l count s₂ l₂ → marks ≡ visits after
-      → (r ≡ length ls) × (marks ≡ runIn K keys ms (length ms) .marks)
+  pub all-listed : {r : ℕ} {b₂ s₂ l₂ marks : List ℕ} → (r ≡ count) × (b₂ ≡ b) × Ordered b s l count s₂ l₂ → marks ≡ visits ms
+      → (r ≡ length ls) × (marks ≡ visits ms)
       × Lists (runIn K keys ms (length ms)) (sorted (entries 0 (runIn K keys ms (length ms) .labels))) b₀ b₂ s₀ s₂ l₀ l₂
   all-listed q m =
       let o = rw (w .lists .starts-after, w .lists .lengths-after, number) at (q .2) in
       let i = index-is b (each-map (λ e n. n .reads) named) apart s₀ l₀ o in (
         q .0 ∙ w .number,
-        m ∙ w .visits-after,
+        m,
         record { letters = q .1 ∙ w .lists .letters; starts-after = i .0; lengths-after = i .1 },
       )

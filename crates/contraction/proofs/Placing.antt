@@ -1,10 +1,11 @@
 -- A text that stands in a buffer from a place on, lengthened or changed. Assumes nothing.
-use mathlib.Core.Path.{_≡_, sym, ap, _∙_}
-use mathlib.Core.List.{List, _++_, append-assoc}
-use Prim.Native.Nat.{ℕ, _+_, _≤_}
+use mathlib.Core.Path.{_≡_, refl, sym, ap, _∙_}
+use mathlib.Core.List.{List, [], _∷_, _++_, append-assoc}
+use Prim.Native.Nat.{ℕ, _+_, _≤_, _<_}
+use native.Mathlib.Numerals.{add-one}
 use native.Mathlib.Omega.{arith}
-use lib.ListN.{length, take, drop, length-append}
-use lib.Seq.{paste, length-paste, take-paste, drop-paste, drop-drop, take-length, take-all, take-at, drop-at, length-take-le}
+use lib.ListN.{length, take, drop, set, length-append}
+use lib.Seq.{paste, length-paste, take-paste, drop-paste, drop-drop, take-length, take-all, take-at, drop-at, length-take-le, set-split, append-snoc}
 use Rattle.dna.specs.Text.{part}
 
 -- A second text behind the first.
@@ -20,7 +21,7 @@ paste-behind d p s t h =
     rw (a, b, take-length, take-length, ← length-append s t, take-length, append-assoc (take p d) s t)
 
 -- The part that was pasted, read again and changed.
-paste-again : (f : List ℕ → List ℕ) (buffer : List ℕ) (at : ℕ) (s : List ℕ) (n : ℕ) → length s ≡ n → at + n ≤ length buffer
+pub paste-again : (f : List ℕ → List ℕ) (buffer : List ℕ) (at : ℕ) (s : List ℕ) (n : ℕ) → length s ≡ n → at + n ≤ length buffer
     → (buffer′ : List ℕ) → buffer′ ≡ paste buffer at s n → paste buffer′ at (f (part buffer′ at n)) n ≡ paste buffer at (f s) n
 paste-again f d p s n l h buf e =
     let ts : take n s ≡ s = take-all n s (omega arith) in
@@ -30,6 +31,10 @@ paste-again f d p s n l h buf e =
     let front : take p buf ≡ take p d = rw b (take-at (take p d) (s ++ drop (p + n) d) p lp) in
     let back : drop (p + n) buf ≡ drop (p + n) d = rw e (drop-paste d p s n (omega arith) (omega arith)) in
     rw (c, front, back)
+
+-- One cell alone.
+paste-one : (buffer : List ℕ) (at v : ℕ) → at < length buffer → set buffer at v ≡ paste buffer at (v ∷ []) 1
+paste-one d p v h = rw (set-split d p v h, add-one, append-snoc)
 
 -- The buffer is as it was but for the text.
 pub record Placed (buffer : List ℕ) (at : ℕ) (text buffer′ : List ℕ) : Type 0 where
@@ -51,6 +56,12 @@ module _ {buffer text buffer′ : List ℕ} {at : ℕ} (p : Placed buffer at tex
     room = omega (arith, length-append text more);
     cells = q ∙ rw (en, em, p .cells, length-append text more) (paste-behind buffer at text more h);
   }
+
+  -- With one cell behind it.
+  pub placed-one : (v n : ℕ) {i : ℕ} → n ≡ length text → i ≡ at + n → at + n < length buffer → Placed buffer at (text ++ (v ∷ [])) (set buffer′ i v)
+  placed-one v n en ei h =
+      placed-more (v ∷ []) n 1 en refl (omega arith)
+      (ap (λ (i : ℕ). set buffer′ i v) ei ∙ paste-one buffer′ (at + n) v (omega (arith, placed-length)))
 
   -- Read again and changed by a function that keeps the length.
   pub placed-anew : (f : List ℕ → List ℕ) → ((x : List ℕ) → length (f x) ≡ length x) → (n : ℕ) {after : List ℕ} → n ≡ length text

@@ -16,8 +16,9 @@ use Rattle.graph.specs.Walks.{Ends, walk, visited, isolated}
 use Rattle.graph.specs.Labels.{Run, labelOf, extract, run}
 use Rattle.graph.specs.Contraction.{endToEnd}
 use Rattle.laws.proofs.Room.{run-room}
-use Rattle.contraction.specs.Marks.{Ready, ends, visits, keysFor, extractIn, labelIn, runIn}
-use Rattle.contraction.proofs.Marking.{keys-marks, ends-length}
+use Rattle.marks.specs.Marks.{ends}
+use Rattle.contraction.specs.Ready.{Ready, keysFor, runIn}
+use Rattle.contraction.proofs.Still.{keys-marks}
 use Rattle.contraction.proofs.Appending.{end-to-end-snoc}
 
 -- No label is lost between two runs.
@@ -27,8 +28,8 @@ pub record Grown (r r₂ : Run) : Type 0 where
 
 module _ (K : ℕ) (ks : List ℕ) (es : List Ends) where
   -- The label of anchor a under some marks.
-  abbrev pub labelFrom : List ℕ → ℕ → List ℕ
-  labelFrom marks a =
+  abbrev pub labelUnder : List ℕ → ℕ → List ℕ
+  labelUnder marks a =
       let back = walk K ks es a Back marks in
       labelOf K ks es (getD ks a 0) back (walk K ks es a Front (back .marks))
 
@@ -40,16 +41,16 @@ module _ (K : ℕ) (ks : List ℕ) (es : List Ends) where
   unfolding run
   run-takes a h = rw (add-one, h)
 
-  pub extract-labels : (r : Run) (a : ℕ) → extract K ks es r a .labels ≡ r .labels ++ (labelFrom (r .marks) a ∷ [])
+  pub extract-labels : (r : Run) (a : ℕ) → extract K ks es r a .labels ≡ r .labels ++ (labelUnder (r .marks) a ∷ [])
   unfolding extract
   extract-labels r a = refl
 
   extract-grown : (r : Run) (a : ℕ) → Grown r (extract K ks es r a)
   extract-grown r a =
-      let l : List ℕ = labelFrom (r .marks) a in
+      let l : List ℕ = labelUnder (r .marks) a in
       let e : length (extract K ks es r a .labels) ≡ length (r .labels) + 1 =
       ap length (extract-labels r a) ∙ length-append (r .labels) (l ∷ []) in
-      let t : length (endToEnd (extract K ks es r a .labels)) ≡ length (endToEnd (r .labels)) + length (labelFrom (r .marks) a) =
+      let t : length (endToEnd (extract K ks es r a .labels)) ≡ length (endToEnd (r .labels)) + length (labelUnder (r .marks) a) =
       ap (λ (ls : List (List ℕ)). length (endToEnd ls)) (extract-labels r a) ∙ ap length (end-to-end-snoc (r .labels) l)
       ∙ length-append (endToEnd (r .labels)) l in
       record { number = omega arith; total = omega arith }
@@ -81,15 +82,3 @@ run-small {K} {keys} {ms} r a h =
     let few : length (keysFor ms keys) ≤ 65536 = omega (arith, r .few) in
     let most : K * length (keysFor ms keys) ≤ 63 * 65536 = mul-le-mul (k .1) few in
     omega (arith, run-room K (keysFor ms keys) (ends ms) (k .0) (r .fits) (λ v s _. r .known v s) a (omega arith))
-
--- Marks that hold the ends of all and the visits of a run, as the next anchor finds them.
-module _ (K : ℕ) (keys ms now : List ℕ) (a : ℕ) (e : ends now ≡ ends ms) (v : visits now ≡ runIn K keys ms a .marks) where
-  pub skips-now : (visited (visits now) a || isolated (ends now) a) ≡ (visited (runIn K keys ms a .marks) a || isolated (ends ms) a)
-  skips-now = rw (e, v)
-
-  pub label-now : labelIn K keys now a ≡ labelFrom K (keysFor ms keys) (ends ms) (runIn K keys ms a .marks) a
-  label-now = rw (ends-length ms now e, e, v)
-
-  pub marks-now : extractIn K keys now a .marks ≡ extract K (keysFor ms keys) (ends ms) (runIn K keys ms a) a .marks
-  unfolding extract
-  marks-now = rw (ends-length ms now e, e, v)

@@ -1,57 +1,25 @@
--- A vertex that is left: as the walk sees it, by which edge, and the step that comes of it. Assumes nothing.
-use mathlib.Core.Path.{_≡_, sym, ap, _∙_}
+-- A vertex that is left: by which edge, and the step that comes of it. Assumes nothing.
+use mathlib.Core.Path.{_≡_, sym, _∙_}
 use mathlib.Core.Bool.{true, false}
 use mathlib.Core.List.{List}
-use Prim.Native.Nat.{ℕ, _^_, _<_}
+use Prim.Native.Nat.{ℕ, _<_}
 use native.Mathlib.Omega.{arith}
-use borrow.Author.Tests.{eq-eqb, ne-eqb, ltb-true}
+use borrow.Author.Tests.{eq-eqb, ne-eqb}
 use lib.Dec.{eqb}
 use lib.ListN.{length, getD, set}
 use Rattle.lemmas.proofs.Tests.{never}
-use Rattle.kmer.specs.Kmer.{rc, forward}
-use Rattle.kmer.specs.Calls.{reverseCall, forwardCall}
-use Rattle.kmer.specs.Says.{valueOf, Answers}
-use Rattle.kmer.specs.declared.Answered.{Answered}
-use Rattle.kmer.proofs.Wide.{value-back}
-use Rattle.kmer.proofs.Given.{kmer-given, roll-given}
-use Rattle.kmer.proofs.Turned.{rc-lt}
-use Rattle.kmer.proofs.Strands.{forward-lt}
+use Rattle.kmer.specs.Kmer.{forward}
 use Rattle.state.specs.declared.Side.{Side}
-use Rattle.state.specs.declared.Side.the-variants.{Front, Back}
 use Rattle.graph.specs.declared.Step.{Step}
 use Rattle.graph.specs.declared.Step.the-variants.{Next, Stop}
 use Rattle.graph.specs.declared.StopReason.the-variants.{NoEdge, SeveralEdges}
 use Rattle.graph.specs.Walks.{edge, visited, seen, leaving, step}
-use Rattle.graph.proofs.Fit.{fit-each}
-use Rattle.table.specs.Search.{key}
-use Rattle.table.proofs.Keys.{key-is}
 use Rattle.laws.proofs.Sides.{leaving-lt}
 use Rattle.laws.proofs.Steps.{came}
-use Rattle.contraction.specs.Marks.{endIn, ends, visits, keysFor, Ready, arriveIn, stepIn}
+use Rattle.marks.specs.Marks.{endIn, ends, visits}
+use Rattle.contraction.specs.Ready.{keysFor, Ready, arriveIn, stepIn}
 use Rattle.contraction.specs.Says.{Advances, extended}
-use Rattle.contraction.proofs.Marking.{edge-is, keys-marks, marking, visits-marking, ends-marking}
-
--- Vertex v as it is stored, and as a walk sees it.
-module _ {K : ℕ} {keys ms : List ℕ} (r : Ready K keys ms) (v : ℕ) (h : v < length ms) where
-  key-below : getD (keysFor ms keys) v 0 < 4 ^ K
-  key-below = ltb-true _ _ (fit-each K 0 (keysFor ms keys) (r .fits) v (omega (arith, keys-marks r)) .0)
-
-  stored-key : key keys v ≡ getD (keysFor ms keys) v 0
-  stored-key = sym (key-is (length ms) keys v h (omega (arith, r .room)))
-
-  pub seen-below : (s : Side) → seen K (keysFor ms keys) v s < 4 ^ K
-  seen-below Front = rc-lt K (getD (keysFor ms keys) v 0)
-  seen-below Back = key-below
-
-  pub seen-back : {s : Side} → s ≡ Back → key keys v ≡ seen K (keysFor ms keys) v s
-  seen-back e = stored-key ∙ sym (ap (seen K (keysFor ms keys) v) e)
-
-  pub seen-front : {s : Side} → s ≡ Front → {c : Answered} → Answers c (reverseCall K (key keys v))
-      → valueOf (c .kmer) ≡ seen K (keysFor ms keys) v s
-  seen-front e t =
-      let n = key keys v in
-      value-back (rc K n) (ap (λ (z : Answered). z .kmer) (kmer-given K n (r .ok) (rw stored-key key-below) (rc K n) t))
-      ∙ ap (rc K) stored-key ∙ sym (ap (seen K (keysFor ms keys) v) e)
+use Rattle.marks.proofs.Marking.{edge-is, marking, visits-marking, ends-marking}
 
 -- Vertex v is left by side s, on which its mark holds e.
 module _ {K : ℕ} {keys ms : List ℕ} (r : Ready K keys ms) (a : ℕ) (start : Side) (v : ℕ) (s : Side) (h : v < length ms)
@@ -72,21 +40,14 @@ module _ {K : ℕ} {keys ms : List ℕ} (r : Ready K keys ms) (a : ℕ) (start :
     leave-base = omega (arith, r .known v s, here, some, single)
 
     -- By a base, from the k-mer that is seen to the one ahead.
-    module _ (b : ℕ) (base : b ≡ leaving s e) (x : ℕ) (from : x ≡ seen K (keysFor ms keys) v s) {y : Answered}
-        (to : Answers y (forwardCall K x b)) where
-      rolled : valueOf (y .kmer) ≡ forward K x b
-      rolled =
-          let l : x < 4 ^ K = rw from (seen-below r v h s) in
-          let m : b < 4 = rw base (leaving-lt s e leave-base) in
-          value-back (forward K x b) (ap (λ (z : Answered). z .kmer) (roll-given K x (r .ok) l b (forward K x b) m to))
+    module _ (b : ℕ) (base : b ≡ leaving s e) where
+      pub leave-code : b < 4
+      leave-code = rw base (leaving-lt s e leave-base)
 
-      pub leave-below : valueOf (y .kmer) < 4 ^ K
-      leave-below = rw rolled (forward-lt K x b)
-
-      pub leave-on : {n : ℕ} → n ≡ b → {st : Step} → st ≡ arriveIn K keys ms a start (valueOf (y .kmer)) n
-          → st ≡ stepIn K keys ms a start v s
+      pub leave-on : (x : ℕ) → x ≡ seen K (keysFor ms keys) v s → {y : ℕ} → y ≡ forward K x b → {n : ℕ} → n ≡ b
+          → {st : Step} → st ≡ arriveIn K keys ms a start y n → st ≡ stepIn K keys ms a start v s
       unfolding step
-      leave-on n t = t ∙ rw (rolled, n, from, base, here, ne-eqb e 5 some, ne-eqb e 4 single)
+      leave-on x from to n t = t ∙ rw (to, n, from, base, here, ne-eqb e 5 some, ne-eqb e 4 single)
 
 -- Vertex v is marked, and then left.
 module _ {K : ℕ} {keys ms : List ℕ} (a : ℕ) (start : Side) (v : ℕ) (s : Side) {st : Step}

@@ -1,35 +1,21 @@
--- All anchors, one after the other: which are skipped, and what each label adds to the run. Assumes nothing.
+-- All anchors, one after the other: what each label adds to the run. Assumes nothing.
 use mathlib.Core.Path.{_≡_, refl, sym, ap, ap₂, _∙_}
 use mathlib.Core.Bool.{Bool, true, false, cond, _||_, or-assoc}
 use mathlib.Core.List.{List, [], _∷_, _++_}
-use Prim.Native.Nat.{ℕ, suc, _+_, _*_, _/_, _≤_, _<_}
+use Prim.Native.Nat.{ℕ, suc, _+_, _*_, _≤_, _<_}
 use native.Mathlib.Omega.{arith}
-use borrow.Author.Tests.{eq-eqb, ne-eqb}
-use lib.Dec.{eqb}
-use lib.ListN.{length, getD, replicate, length-append}
-use Rattle.state.specs.declared.Side.the-variants.{Front, Back}
+use lib.ListN.{length, replicate, length-append}
 use Rattle.graph.specs.Table.{keysOf}
 use Rattle.graph.specs.Walks.{Ends, visited, isolated}
 use Rattle.graph.specs.Labels.{Run, extract, run}
 use Rattle.graph.specs.Contraction.{endToEnd}
 use Rattle.laws.proofs.Room.{total-snoc}
-use Rattle.contraction.specs.Marks.{endIn, ends, visits, keysFor, extractIn, labelIn, runIn, Ready}
+use Rattle.marks.specs.Marks.{ends, visits}
+use Rattle.contraction.specs.Ready.{keysFor, extractIn, labelIn, runIn, Ready}
 use Rattle.contraction.specs.Says.{Unvisited, Extracts, Surveys}
 use Rattle.contraction.specs.declared.Extracted.{Extracted}
-use Rattle.contraction.proofs.Marking.{edge-is, visited-is, ends-length, keys-marks}
-
--- A vertex that is no anchor, as its mark says.
-module _ (ms : List ℕ) (a : ℕ) (h : a < length ms) where
-  pub skipped-visited : getD ms a 0 / 64 ≡ 1 → true ≡ (visited (visits ms) a || isolated (ends ms) a)
-  skipped-visited e = rw (visited-is ms a h, eq-eqb (getD ms a 0 / 64) 1 e)
-
-  module _ (fresh : getD ms a 0 / 64 ≡ 1 → ⊥) {e : ℕ} (q : e ≡ endIn (getD ms a 0) Front) where
-    pub skipped-front : (e ≡ 5 → ⊥) → false ≡ (visited (visits ms) a || isolated (ends ms) a)
-    skipped-front n = rw (visited-is ms a h, ne-eqb (getD ms a 0 / 64) 1 fresh, edge-is ms a h Front, sym q, ne-eqb e 5 n)
-
-    pub skipped-back : e ≡ 5 → {d : ℕ} → d ≡ endIn (getD ms a 0) Back → eqb d 5 ≡ (visited (visits ms) a || isolated (ends ms) a)
-    skipped-back i {d} p =
-        rw (visited-is ms a h, ne-eqb (getD ms a 0 / 64) 1 fresh, edge-is ms a h Front, sym q, i, edge-is ms a h Back, sym p)
+use Rattle.marks.proofs.Marking.{ends-length}
+use Rattle.contraction.proofs.Still.{keys-marks}
 
 -- A run that has marks and nothing else.
 abbrev from : List ℕ → Run
@@ -90,8 +76,8 @@ module _ {K : ℕ} {keys ms : List ℕ} where
           };
         }
 
-    pub surveying-take : false ≡ (visited (visits now) a || isolated (ends now) a) → {l : Extracted} {after : List ℕ}
-        → Extracts K keys now a l after → {t : Bool} → t ≡ (missing || l .missing)
+    pub surveying-take : false ≡ (visited (visits now) a || isolated (ends now) a) → {l : Extracted} {after trail trail′ : List ℕ} {at : ℕ}
+        → Extracts K keys now a l after trail at trail′ → {t : Bool} → t ≡ (missing || l .missing)
         → Surveying K keys ms (a + 1) (labels + 1) (bases + l .bases) t after
     unfolding extract
     surveying-take e {l} {after} x {t} m =

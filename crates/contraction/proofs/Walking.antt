@@ -6,17 +6,20 @@ use Prim.Native.Nat.{ℕ, _+_, _≤_, _<_}
 use native.Mathlib.Omega.{arith}
 use lib.ListN.{length, getD, set, drop, length-drop}
 use lib.Seq.{drop-drop, getD-drop}
+use Rattle.kmer.specs.Kmer.{forward}
 use Rattle.state.specs.declared.Side.{Side}
 use Rattle.graph.specs.declared.Step.{Step}
 use Rattle.graph.specs.declared.Step.the-variants.{Next}
 use Rattle.graph.specs.Table.{keysOf}
-use Rattle.graph.specs.Walks.{Ends, visited, step, walk}
+use Rattle.graph.specs.Walks.{Ends, visited, seen, step, walk}
 use Rattle.laws.specs.Trails.{isNext}
-use Rattle.laws.proofs.Steps.{Came, came, came-lt, came-base}
+use Rattle.laws.proofs.Steps.{Came, came, came-lt, came-forward, came-base}
 use Rattle.laws.proofs.Fuel.{Went, walk-went}
-use Rattle.contraction.specs.Marks.{ends, visits, keysFor, walkIn, Ready}
+use Rattle.marks.specs.Marks.{ends, visits}
+use Rattle.contraction.specs.Ready.{keysFor, walkIn, Ready}
 use Rattle.contraction.specs.Says.{Advances, Walks}
-use Rattle.contraction.proofs.Marking.{visits-length, ends-length, keys-marks, visited-still, visited-now}
+use Rattle.marks.proofs.Marking.{visits-length, ends-length, visited-still, visited-now}
+use Rattle.contraction.proofs.Still.{keys-marks}
 use Rattle.contraction.proofs.Onward.{rest, went-on, went-ends, follow-few}
 
 -- A walk has no more bases than there are vertices.
@@ -84,6 +87,10 @@ module _ {K : ℕ} {keys ms : List ℕ} {a : ℕ} {start : Side} {bases v : ℕ}
         let z : bases + 0 ≡ bases = omega arith in
         let first = sym (rw z at (getD-drop bases l 0 0)) ∙ ap (λ (d : List ℕ). getD d 0 0) (on .0) in
         (first, came-base K (keysFor ms keys) (ends ms) met (g .ready .known v s))
+
+    -- The base leads from the vertex as it is seen to the next.
+    pub walking-seen : forward K (seen K (keysFor ms keys) v s) b ≡ seen K (keysFor ms keys) u t
+    walking-seen = came-forward K (keysFor ms keys) (ends ms) met
 
   pub walking-ends : {st : Step} → r ≡ st → isNext st ≡ false → Walks K keys ms a start (record { bases = bases; last = st }) after
   walking-ends e n =

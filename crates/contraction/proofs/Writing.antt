@@ -1,118 +1,149 @@
--- One label written in its place: closed after the Back walk, or with the Front walk behind that one turned round. Assumes nothing.
+-- One label written in its place from an anchor's piece: the k-mer and the Back walk, or before them the Front walk on the other
+-- strand. Assumes nothing.
 use mathlib.Core.Path.{_≡_, sym, ap, _∙_}
 use mathlib.Core.Bool.{true, false}
-use mathlib.Core.List.{List, map}
+use mathlib.Core.List.{List, _++_}
 use Prim.Native.Nat.{ℕ, _+_, _≤_, _<_}
 use native.Mathlib.Omega.{arith}
-use lib.Seq.{paste}
-use lib.ListN.{length, length-map}
+use borrow.Author.Tests.{eq-eqb, ne-eqb}
+use lib.Dec.{eqb}
+use lib.Seq.{paste, drop-drop, getD-drop}
+use lib.ListN.{length, getD, drop, length-drop, length-append}
 use Rattle.dna.specs.Text.{part}
-use Rattle.dna.specs.Letters.{letterOf, reverseComplement}
+use Rattle.dna.specs.Letters.{reverseComplement}
 use Rattle.dna.proofs.Reversal.{length-reverseComplement}
-use Rattle.state.specs.declared.Side.the-variants.{Front, Back}
-use Rattle.graph.specs.Walks.{Walk, walk, closed}
-use Rattle.graph.specs.Labels.{lesser, extract}
+use Rattle.kmer.specs.Kmer.{letters}
+use Rattle.kmer.proofs.Spelling.{length-letters}
+use Rattle.graph.specs.Labels.{lesser}
 use Rattle.laws.proofs.Plain.{lesser-length}
-use Rattle.contraction.specs.Marks.{Ready, ends, keysFor, walkIn, labelIn}
-use Rattle.contraction.specs.Says.{Spells, WritesLabel}
-use Rattle.contraction.specs.declared.Walked.{Walked}
-use Rattle.contraction.proofs.Halfway.{Half}
-use Rattle.contraction.proofs.Marking.{ends-length, ready-still, walk-still}
-use Rattle.contraction.proofs.Lettering.{frontOf, halfText, wholeText, length-half, length-whole, label-closed, label-open}
-use Rattle.contraction.proofs.Placing.{Placed, placed-length, placed-more, placed-anew}
+use Rattle.contraction.specs.Says.{WritesLabel}
+use Rattle.contraction.specs.Trail.{letterCount, Ends, Piece, labelFrom, pieceLength}
+use Rattle.contraction.proofs.Copying.{part-length}
+use Rattle.contraction.proofs.Placing.{Placed, placed-first, placed-length, placed-more, placed-anew}
 
-module _ {K : ℕ} {keys ms : List ℕ} {a : ℕ} {buffer : List ℕ} {at : ℕ} {b : Walked} {ms₁ buffer₂ : List ℕ}
-    (h : Half K keys ms a buffer at b ms₁ buffer₂) where
-  half-is : K + b .bases ≡ length (halfText K keys ms a)
-  half-is = omega (arith, h .walks .bases, length-half K keys ms a)
+-- What is asked: a piece stands in the trail from a place on, and its label has room; the Back walk has n letters.
+pub record Legible (K x : ℕ) (trail : List ℕ) (from : ℕ) (buffer : List ℕ) (at n : ℕ) : Type 0 where
+  pub piece : Piece (drop from trail)
+  pub room : at + length (labelFrom K x (drop from trail)) ≤ length buffer
+  pub back : n ≡ letterCount (drop from trail)
 
-  pub half-within : at + (K + b .bases) ≤ length buffer
-  half-within = omega (arith, half-is, h .text .room)
+module _ {K x : ℕ} {trail : List ℕ} {from : ℕ} {buffer : List ℕ} {at n : ℕ} (y : Legible K x trail from buffer at n) where
+  pub back-inside : from + n < length trail
+  back-inside = omega (arith, y .back, y .piece .back-ends, length-drop from trail)
 
-  pub half-room : at + (K + b .bases) ≤ length buffer₂
-  half-room = omega (arith, half-within, placed-length (h .text))
+  byte-is : getD (drop from trail) (letterCount (drop from trail)) 0 ≡ getD trail (from + n) 0
+  byte-is = ap (λ (i : ℕ). getD (drop from trail) i 0) (sym (y .back)) ∙ getD-drop from trail n 0
 
-  pub written-closed : closed (b .last) ≡ true → {buffer₃ : List ℕ}
-      → buffer₃ ≡ paste buffer₂ at (lesser (part buffer₂ at (K + b .bases))) (K + b .bases)
-      → WritesLabel K keys ms a (K + b .bases) ms₁ buffer at buffer₃
-  unfolding extract
-  written-closed e q =
-      let c : closed (walkIn K keys ms a Back .last) ≡ true = ap closed (sym (h .walks .last)) ∙ e in
-      let l : labelIn K keys ms a ≡ lesser (halfText K keys ms a) = label-closed K keys ms a c in
-      record {
-        bases = half-is ∙ sym (ap length l ∙ lesser-length (halfText K keys ms a));
-        ends-kept = h .walks .ends-kept;
-        visits-after = rw c (h .walks .visits-after);
-        letters = rw l (placed-anew (h .text) lesser lesser-length (K + b .bases) half-is q .cells);
-      }
+  back-long : length (part trail from n) ≡ n
+  back-long = part-length trail from n (omega (arith, back-inside))
 
-  -- It is turned round, since it has not closed.
-  module _ (e : closed (b .last) ≡ false) {buffer₃ : List ℕ}
-      (q : buffer₃ ≡ paste buffer₂ at (reverseComplement (part buffer₂ at (K + b .bases))) (K + b .bases)) where
-    turned-placed : Placed buffer at (reverseComplement (halfText K keys ms a)) buffer₃
-    turned-placed = placed-anew (h .text) reverseComplement length-reverseComplement (K + b .bases) half-is q
+  -- The Back walk closed.
+  module _ (c : getD trail (from + n) 0 ≡ 1) where
+    tells-closed : eqb (getD (drop from trail) (letterCount (drop from trail)) 0) 1 ≡ true
+    tells-closed = eq-eqb _ 1 (byte-is ∙ c)
 
-    label-is : labelIn K keys ms a ≡ lesser (wholeText K keys ms a)
-    label-is = label-open K keys ms a (h .asked .ready) (h .asked .vertex) (ap closed (sym (h .walks .last)) ∙ e)
+    label-closed : labelFrom K x (drop from trail) ≡ lesser (letters K x ++ part trail from n)
+    unfolding labelFrom
+    label-closed = rw (tells-closed, ← y .back)
 
-    whole-fits : at + length (wholeText K keys ms a) ≤ length buffer
-    whole-fits = omega (arith, h .asked .room, ap length label-is, lesser-length (wholeText K keys ms a))
+    long-closed : length (letters K x ++ part trail from n) ≡ K + n
+    long-closed = omega (arith, length-append (letters K x) (part trail from n), length-letters K x, back-long)
 
-    front-is : walkIn K keys ms₁ a Front ≡ frontOf K keys ms a
-    front-is =
-        walk-still ms ms₁ (h .walks .ends-kept) K keys a Front
-        ∙ ap (walk K (keysFor ms keys) (ends ms) a Front) (h .walks .visits-after)
+    pub fits-closed : at + (K + n) ≤ length buffer
+    fits-closed = omega (arith, y .room, ap length label-closed, lesser-length (letters K x ++ part trail from n), long-closed)
 
-    pub front-ready : Ready K keys ms₁
-    front-ready = ready-still (h .asked .ready) (h .walks .ends-kept)
+    module _ {b₁ : List ℕ} (q₁ : b₁ ≡ paste buffer at (letters K x) K) where
+      first : Placed buffer at (letters K x) b₁
+      first = placed-first buffer at (letters K x) K (sym (length-letters K x)) (omega (arith, fits-closed)) q₁
 
-    pub front-vertex : a < length ms₁
-    front-vertex = omega (arith, h .asked .vertex, ends-length ms ms₁ (h .walks .ends-kept))
+      pub room-closed : at + K + n ≤ length b₁
+      room-closed = omega (arith, fits-closed, placed-length first)
 
-    pub front-room : at + (K + b .bases) + length (walkIn K keys ms₁ a Front .bases) ≤ length buffer₃
-    front-room =
-        omega (
-          arith,
-          whole-fits,
-          half-is,
-          length-whole K keys ms a,
-          ap (λ (w : Walk). length (w .bases)) front-is,
-          placed-length turned-placed,
-        )
+      module _ {b₂ : List ℕ} (q₂ : b₂ ≡ paste b₁ (at + K) (part trail from n) n) where
+        text-closed : Placed buffer at (letters K x ++ part trail from n) b₂
+        text-closed =
+            placed-more first (part trail from n) K n (sym (length-letters K x)) (sym back-long)
+            (omega (arith, fits-closed, length-letters K x, back-long)) q₂
 
-    module _ {f : Walked} {ms₂ buffer₄ : List ℕ} (g : Spells K keys ms₁ a Front f ms₂ buffer₃ (at + (K + b .bases)) buffer₄) where
-      whole-is : K + b .bases + f .bases ≡ length (wholeText K keys ms a)
-      whole-is = omega (arith, g .walks .bases, ap (λ (w : Walk). length (w .bases)) front-is, half-is, length-whole K keys ms a)
+        pub whole-closed : at + (K + n) ≤ length b₂
+        whole-closed = omega (arith, fits-closed, placed-length text-closed)
 
-      whole-placed : Placed buffer at (wholeText K keys ms a) buffer₄
-      whole-placed =
-          let fs = frontOf K keys ms a .bases in
-          placed-more turned-placed (map letterOf fs) (K + b .bases) (length fs)
-          (half-is ∙ sym (length-reverseComplement (halfText K keys ms a))) (sym (length-map (frontOf K keys ms a .bases) letterOf))
-          (omega (
-            arith,
-            whole-fits,
-            length-whole K keys ms a,
-            length-reverseComplement (halfText K keys ms a),
-            length-map (frontOf K keys ms a .bases) letterOf,
-          ))
-          (g .letters ∙ ap (λ (w : Walk). paste buffer₃ (at + (K + b .bases)) (map letterOf (w .bases)) (length (w .bases))) front-is)
+        pub written-closed : {b₃ : List ℕ} → b₃ ≡ paste b₂ at (lesser (part b₂ at (K + n))) (K + n)
+            → WritesLabel K x trail from (record { bases = K + n; end = from + n + 1 }) buffer at b₃
+        unfolding pieceLength
+        written-closed q₃ = record {
+          bases = sym (ap length label-closed ∙ lesser-length (letters K x ++ part trail from n) ∙ long-closed);
+          end = rw tells-closed (omega (arith, y .back));
+          letters = rw label-closed (placed-anew text-closed lesser lesser-length (K + n) (sym long-closed) q₃ .cells);
+        }
 
-      pub whole-within : at + (K + b .bases + f .bases) ≤ length buffer
-      whole-within = omega (arith, whole-is, whole-fits)
+  -- It stopped, and the Front walk stands behind it.
+  module _ (o : getD trail (from + n) 0 ≡ 1 → ⊥) where
+    tells-open : eqb (getD (drop from trail) (letterCount (drop from trail)) 0) 1 ≡ false
+    tells-open = ne-eqb _ 1 (λ e. o (sym byte-is ∙ e))
 
-      pub whole-room : at + (K + b .bases + f .bases) ≤ length buffer₄
-      whole-room = omega (arith, whole-within, placed-length whole-placed)
+    behind : drop (letterCount (drop from trail) + 1) (drop from trail) ≡ drop (from + n + 1) trail
+    behind =
+        let e : from + (n + 1) ≡ from + n + 1 = omega arith in
+        ap (λ (i : ℕ). drop (i + 1) (drop from trail)) (sym (y .back)) ∙ drop-drop (n + 1) from trail ∙ ap (λ (i : ℕ). drop i trail) e
 
-      pub written-open : {buffer₅ : List ℕ}
-          → buffer₅ ≡ paste buffer₄ at (lesser (part buffer₄ at (K + b .bases + f .bases))) (K + b .bases + f .bases)
-          → WritesLabel K keys ms a (K + b .bases + f .bases) ms₂ buffer at buffer₅
-      unfolding extract
-      written-open p =
-          let c : closed (walkIn K keys ms a Back .last) ≡ false = ap closed (sym (h .walks .last)) ∙ e in
-          record {
-            bases = whole-is ∙ sym (ap length label-is ∙ lesser-length (wholeText K keys ms a));
-            ends-kept = g .walks .ends-kept ∙ h .walks .ends-kept;
-            visits-after = rw c (g .walks .visits-after ∙ ap (λ (w : Walk). w .marks) front-is);
-            letters = rw label-is (placed-anew whole-placed lesser lesser-length (K + b .bases + f .bases) whole-is p .cells);
-          }
+    pub front-ends : Ends (drop (from + n + 1) trail)
+    front-ends = record { within = rw behind at (y .piece .front-ends tells-open) }
+
+    module _ {m : ℕ} (em : m ≡ letterCount (drop (from + n + 1) trail)) where
+      abbrev turned : List ℕ
+      turned = reverseComplement (part trail (from + n + 1) m)
+
+      pub front-inside : from + n + 1 + m ≤ length trail
+      front-inside = omega (arith, em, front-ends .within, length-drop (from + n + 1) trail)
+
+      front-long : length turned ≡ m
+      front-long = length-reverseComplement (part trail (from + n + 1) m) ∙ part-length trail (from + n + 1) m front-inside
+
+      label-open : labelFrom K x (drop from trail) ≡ lesser (turned ++ letters K x ++ part trail from n)
+      unfolding labelFrom
+      label-open = rw (tells-open, behind, ← em, ← y .back)
+
+      mid-long : length (turned ++ letters K x) ≡ m + K
+      mid-long = omega (arith, length-append turned (letters K x), front-long, length-letters K x)
+
+      long-open : length (turned ++ letters K x ++ part trail from n) ≡ m + K + n
+      long-open = omega (arith, length-append (turned ++ letters K x) (part trail from n), mid-long, back-long)
+
+      pub fits-open : at + (m + K + n) ≤ length buffer
+      fits-open = omega (arith, y .room, ap length label-open, lesser-length (turned ++ letters K x ++ part trail from n), long-open)
+
+      module _ {b₁ : List ℕ} (q₁ : b₁ ≡ paste buffer at turned m) where
+        front-placed : Placed buffer at turned b₁
+        front-placed = placed-first buffer at turned m (sym front-long) (omega (arith, fits-open)) q₁
+
+        pub kmer-room : at + m + K ≤ length b₁
+        kmer-room = omega (arith, fits-open, placed-length front-placed)
+
+        module _ {b₂ : List ℕ} (q₂ : b₂ ≡ paste b₁ (at + m) (letters K x) K) where
+          mid-placed : Placed buffer at (turned ++ letters K x) b₂
+          mid-placed =
+              placed-more front-placed (letters K x) m K (sym front-long) (sym (length-letters K x))
+              (omega (arith, fits-open, front-long, length-letters K x)) q₂
+
+          pub back-room : at + m + K + n ≤ length b₂
+          back-room = omega (arith, fits-open, placed-length mid-placed)
+
+          module _ {b₃ : List ℕ} (q₃ : b₃ ≡ paste b₂ (at + m + K) (part trail from n) n) where
+            text-open : Placed buffer at (turned ++ letters K x ++ part trail from n) b₃
+            text-open =
+                let e : at + m + K ≡ at + (m + K) = omega arith in
+                placed-more mid-placed (part trail from n) (m + K) n (sym mid-long) (sym back-long)
+                (omega (arith, fits-open, mid-long, back-long)) (rw e at q₃)
+
+            pub whole-open : at + (m + K + n) ≤ length b₃
+            whole-open = omega (arith, fits-open, placed-length text-open)
+
+            pub written-open : {b₄ : List ℕ} → b₄ ≡ paste b₃ at (lesser (part b₃ at (m + K + n))) (m + K + n)
+                → WritesLabel K x trail from (record { bases = m + K + n; end = from + n + m + 2 }) buffer at b₄
+            unfolding pieceLength
+            written-open q₄ = record {
+              bases = sym (ap length label-open ∙ lesser-length (turned ++ letters K x ++ part trail from n) ∙ long-open);
+              end = rw (tells-open, behind) (omega (arith, em, y .back));
+              letters = rw label-open (placed-anew text-open lesser lesser-length (m + K + n) (sym long-open) q₄ .cells);
+            }

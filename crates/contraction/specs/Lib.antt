@@ -1,2 +1,3 @@
-pub mod Marks
+pub mod Ready
+pub mod Trail
 pub mod Says

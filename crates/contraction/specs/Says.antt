@@ -1,15 +1,16 @@
 -- What contraction answers in document 01's numbers, and what its parts say. Assumes nothing.
-use Prim.Native.Nat.{ℕ, suc, _+_, _/_, _≤_, _<_}
+use Prim.Native.Nat.{ℕ, _+_, _/_, _^_, _≤_, _<_}
 use mathlib.Core.Path.{_≡_}
 use mathlib.Core.Bool.{Bool, true, false, cond}
 use mathlib.Core.List.{List, [], _∷_, map}
 use lib.Dec.{eqb}
 use lib.Seq.{paste}
-use lib.ListN.{length, getD, set, replicate}
+use lib.ListN.{length, getD, set, drop, replicate}
 use Rattle.dna.specs.Text.{over, part}
 use Rattle.dna.specs.Answer.{Answer, gives, refuses}
 use Rattle.dna.specs.Letters.{letterOf}
-use Rattle.kmer.specs.Kmer.{okK}
+use Rattle.kmer.specs.Kmer.{okK, rc}
+use Rattle.kmer.specs.Says.{valueOf}
 use Rattle.sorting.specs.Index.{Spot, sortedSpots}
 use Rattle.state.specs.Counted.{fourBits}
 use Rattle.state.specs.declared.Side.{Side}
@@ -20,10 +21,13 @@ use Rattle.graph.specs.Table.{tableOf, fitFrom}
 use Rattle.graph.specs.Walks.{visited}
 use Rattle.graph.specs.Labels.{Run, lesser, run}
 use Rattle.graph.specs.Contraction.{Entry, entries, sorted, endToEnd, endsIn, Totals, Contracted, finish}
-use Rattle.contraction.specs.Marks.{ends, visits, keysFor, enterIn, stepIn, walkIn, extractIn, labelIn, runIn, Ready}
+use Rattle.marks.specs.Marks.{ends, visits}
+use Rattle.contraction.specs.Ready.{keysFor, stepIn, walkIn, extractIn, labelIn, runIn}
+use Rattle.contraction.specs.Trail.{pieceIn, labelFrom, pieceLength}
+use Rattle.contraction.specs.declared.Strands.{Strands}
 use Rattle.contraction.specs.declared.Walked.{Walked}
+use Rattle.contraction.specs.declared.Written.{Written}
 use Rattle.contraction.specs.declared.Extracted.{Extracted}
-use Rattle.contraction.specs.declared.Surveyed.{Surveyed}
 use Rattle.contraction.specs.declared.ContractAnswer.{ContractAnswer}
 use Rattle.contraction.specs.declared.ContractAnswer.the-variants as contract
 
@@ -44,13 +48,15 @@ pub record Contracts (r : ContractAnswer) (labels starts lengths marks : List �
   pub lengths-after : lengths ≡ c .lengths
   pub marks-after : marks ≡ c .marks
 
+-- Both strands of a k-mer x.
+pub record Both (K x : ℕ) (s : Strands) : Type 0 where
+  pub below : x < 4 ^ K
+  pub here : valueOf (s .here) ≡ x
+  pub other : valueOf (s .other) ≡ rc K x
+
 -- A step that comes to the anchor does not extend the walk.
 abbrev pub extended : ℕ → ℕ → Side → ℕ → Step
 extended a v s b = cond (eqb v a) (Stop (VisitedAhead false)) (Next v s b)
-
--- Vertex w, to be entered by side t with base b, whatever the keys.
-abbrev pub Enters : List ℕ → ℕ → Side → ℕ → Side → ℕ → Step → Type 0
-Enters ms a start w t b r = (K : ℕ) (keys : List ℕ) → r ≡ enterIn K keys ms a start w t b
 
 -- What the parts leave in the marks, and say; over keys and the marks at entry.
 module _ (K : ℕ) (keys ms : List ℕ) where
@@ -73,20 +79,15 @@ module _ (K : ℕ) (keys ms : List ℕ) where
     pub walks : Walks a start r after
     pub letters : buffer′ ≡ paste buffer at (map letterOf (walkIn K keys ms a start .bases)) (length (walkIn K keys ms a start .bases))
 
-  -- Anchor a's label, unwritten: its length, and whether a vertex was missing.
-  pub record Extracts (a : ℕ) (r : Extracted) (after : List ℕ) : Type 0 where
+  -- Anchor a's label, unwritten: its length, and whether a vertex was missing; its walks stand in the trail from a place on.
+  pub record Extracts (a : ℕ) (r : Extracted) (after trail : List ℕ) (at : ℕ) (trail′ : List ℕ) : Type 0 where
     pub bases : r .bases ≡ length (labelIn K keys ms a)
     pub missed : r .missing ≡ extractIn K keys ms a .missed
     pub ends-kept : ends after ≡ ends ms
     pub visits-after : visits after ≡ extractIn K keys ms a .marks
     pub few : r .bases ≤ 200000
-
-  -- Anchor a's label, written from a place of the buffer on.
-  pub record WritesLabel (a r : ℕ) (after buffer : List ℕ) (at : ℕ) (buffer′ : List ℕ) : Type 0 where
-    pub bases : r ≡ length (labelIn K keys ms a)
-    pub ends-kept : ends after ≡ ends ms
-    pub visits-after : visits after ≡ extractIn K keys ms a .marks
-    pub letters : buffer′ ≡ paste buffer at (labelIn K keys ms a) (length (labelIn K keys ms a))
+    pub end : r .end ≡ at + length (pieceIn K keys ms a)
+    pub walks : trail′ ≡ paste trail at (pieceIn K keys ms a) (length (pieceIn K keys ms a))
 
   -- The first a anchors, unwritten.
   pub record Surveys (a labels bases : ℕ) (missing : Bool) (after : List ℕ) : Type 0 where
@@ -101,6 +102,12 @@ module _ (K : ℕ) (keys ms : List ℕ) where
     pub bases-fit : length (endToEnd (runIn K keys ms (length ms) .labels)) ≤ buffer
     pub starts-fit : length (runIn K keys ms (length ms) .labels) ≤ starts
     pub lengths-fit : length (runIn K keys ms (length ms) .labels) ≤ lengths
+
+-- The label of k-mer x and of the piece that stands in the trail from a place on, written from a place of the buffer on.
+pub record WritesLabel (K x : ℕ) (trail : List ℕ) (from : ℕ) (r : Written) (buffer : List ℕ) (at : ℕ) (buffer′ : List ℕ) : Type 0 where
+  pub bases : r .bases ≡ length (labelFrom K x (drop from trail))
+  pub end : r .end ≡ from + pieceLength (drop from trail)
+  pub letters : buffer′ ≡ paste buffer at (labelFrom K x (drop from trail)) (length (labelFrom K x (drop from trail)))
 
 -- No vertex is visited.
 abbrev pub Unvisited : List ℕ → Type 0
@@ -120,11 +127,9 @@ pub record Lists (r : Run) (es : List Entry) (buffer buffer′ starts starts′ 
   pub lengths-after : lengths′ ≡ over (lengthsOf es) lengths
 
 -- The labels of the first a anchors, written end to end, with their index in anchor order.
-pub record Writes (K : ℕ) (keys ms : List ℕ) (a labels at : ℕ) (after buffer buffer′ starts starts′ lengths lengths′ : List ℕ) : Type 0 where
+pub record Writes (K : ℕ) (keys ms : List ℕ) (a labels at : ℕ) (buffer buffer′ starts starts′ lengths lengths′ : List ℕ) : Type 0 where
   pub number : labels ≡ length (runIn K keys ms a .labels)
   pub total : at ≡ length (endToEnd (runIn K keys ms a .labels))
-  pub ends-kept : ends after ≡ ends ms
-  pub visits-after : visits after ≡ runIn K keys ms a .marks
   pub lists : Lists (runIn K keys ms a) (entries 0 (runIn K keys ms a .labels)) buffer buffer′ starts starts′ lengths lengths′
 
 -- The label that entry i of an index names in a buffer.

@@ -1,7 +1,8 @@
 // Contraction: the maximal unitigs of a lent table, written into lent slices.
 use graph::Step;
+use kmer::Kmer;
 
-mod digest;
+mod directory;
 mod normal;
 mod step;
 mod survey;
@@ -21,16 +22,37 @@ pub enum ContractAnswer {
     NoRoom,
 }
 
+// The bytes of a trail that are no letters: behind a walk that stopped, behind one that closed a cycle, and for a vertex that is
+// no anchor.
+const STOPPED: u8 = 0;
+
+const CLOSED: u8 = 1;
+
+const SKIPPED: u8 = 2;
+
 // A walk: how many bases it appends, and the step at which it ends.
 struct Walked {
     bases: usize,
     last: Step,
 }
 
-// A label: its length, and whether a vertex was missing.
+// A k-mer as a walk sees it, and its reverse complement.
+struct Strands {
+    here: Kmer,
+    other: Kmer,
+}
+
+// A label: its length, where its walks end in the trail, and whether a vertex was missing.
 struct Extracted {
     bases: usize,
+    end: usize,
     missing: bool,
+}
+
+// A label written: its length, and where its walks end in the trail.
+struct Written {
+    bases: usize,
+    end: usize,
 }
 
 // All labels: their number, their bases, and whether a vertex was missing.

@@ -6,6 +6,7 @@ ghost use Prim.Native.Nat.{_<_};
 ghost use lib.ListN.{length};
 ghost use Rattle.contraction.specs.Says.{Normal, Ordered, labelAt};
 use super::write;
+use sorting::Order;
 
 // Each label of the index made the smaller of its strands.
 fn canonicalize(buffer: &mut [u8], starts: &[u32], lengths: &[u32], count: usize)
@@ -19,7 +20,7 @@ fn canonicalize(buffer: &mut [u8], starts: &[u32], lengths: &[u32], count: usize
     }
 }
 
-// Whether the labels of two entries are the same bytes: neither stands before the other.
+// Whether the labels of two entries are the same bytes.
 fn are_same(buffer: &[u8], starts: &[u32], lengths: &[u32], i: usize, j: usize) -> bool
     requires { ⌜ (i < length (now starts)) × (i < length (now lengths)) × (j < length (now starts)) × (j < length (now lengths)) ⌝ }
     ensures { λ r. ⌜ (r ≡ true → labelAt (now (buffer .entry)) (now (starts .entry)) (now (lengths .entry)) i ≡ labelAt (now (buffer .entry)) (now (starts .entry)) (now (lengths .entry)) j) ⌝ }
@@ -28,10 +29,11 @@ fn are_same(buffer: &[u8], starts: &[u32], lengths: &[u32], i: usize, j: usize) 
     let m = lengths[i] as usize;
     let t = starts[j] as usize;
     let n = lengths[j] as usize;
-    if sorting::is_before(buffer, s, m, t, n) {
-        return false;
+    match sorting::compare(buffer, s, m, t, n) {
+        Order::Before => false,
+        Order::Same => true,
+        Order::After => false,
     }
-    !sorting::is_before(buffer, t, n, s, m)
 }
 
 // An entry whose label is that of the last one kept is dropped; how many are kept.

@@ -1,33 +1,23 @@
 // One step of a walk.
 ghost use mathlib.Core.Path.{_≡_};
-ghost use mathlib.Core.Bool.{true, not, _&&_};
-ghost use Prim.Native.Nat.{_^_, _≤_, _<_};
-ghost use lib.Dec.{eqb};
+ghost use mathlib.Core.Bool.{true};
+ghost use Prim.Native.Nat.{_≤_, _<_};
 ghost use lib.ListN.{length, set};
 ghost use Rattle.dna.specs.Calls.{codeIn};
-ghost use Rattle.kmer.specs.Kmer.{okK};
+ghost use Rattle.kmer.specs.Kmer.{okK, forward};
 ghost use Rattle.kmer.specs.Says.{valueOf};
-ghost use Rattle.state.specs.Counted.{sameSide};
-ghost use Rattle.graph.specs.Walks.{leaving, entrance, seen, visited};
-ghost use Rattle.contraction.specs.Marks.{Ready, endIn, visits, keysFor, arriveIn, stepIn};
-ghost use Rattle.contraction.specs.Says.{Enters, Advances, extended};
+ghost use Rattle.graph.specs.Walks.{leaving, seen, visited};
+ghost use Rattle.marks.specs.Marks.{visits};
+ghost use Rattle.contraction.specs.Ready.{Ready, keysFor, lookIn, arriveIn, stepIn};
+ghost use Rattle.contraction.specs.Says.{Both, Advances, extended};
+use super::Strands;
+use super::directory;
 use dna::Base;
 use graph::Step;
 use graph::StopReason;
 use kmer::Kmer;
-use kmer::TestAnswer;
 use state::Side;
 use table::Found;
-
-// The edge on a side, as a mark holds it.
-pub(crate) fn edge_in(mark: u8, side: Side) -> u8
-    ensures { λ r. ⌜ r ≡ endIn mark side ⌝ }
-{
-    match side {
-        Side::Front => mark % 8,
-        Side::Back => mark / 8 % 8,
-    }
-}
 
 pub(crate) fn base_of(code: u8) -> Base
     requires { ⌜ code ≤ 5 ⌝ }
@@ -55,110 +45,115 @@ fn leaving_base(side: Side, edge: u8) -> Base
     }
 }
 
-fn is_same(s: Side, t: Side) -> bool
-    ensures { λ r. ⌜ r ≡ sameSide s t ⌝ }
-{
-    match s {
-        Side::Front => match t {
-            Side::Front => true,
-            Side::Back => false,
-        },
-        Side::Back => match t {
-            Side::Front => false,
-            Side::Back => true,
-        },
-    }
-}
-
-// Whether a visited vertex ahead closes the cycle: it is the anchor, come back to by the side opposite the start.
-fn closes(anchor: usize, start: Side, vertex: usize, side: Side) -> bool
-    ensures { λ r. ⌜ r ≡ eqb vertex anchor && not (sameSide side start) ⌝ }
-{
-    if vertex == anchor {
-        return !is_same(side, start);
-    }
-    false
-}
-
-// Front if the k-mer is seen canonical, else Back.
-fn entrance_side(k: usize, x: Kmer) -> Side
-    requires { ⌜ (okK k ≡ true) × (valueOf x < 4 ^ k) ⌝ }
-    ensures { λ r. ⌜ r ≡ entrance k (valueOf x) ⌝ }
-{
-    match x.is_canonical(k) {
-        TestAnswer::Is(canonical) => { if canonical { Side::Front } else { Side::Back } }
-        TestAnswer::Refused(_) => Side::Back,
-    }
-}
-
-// Vertex w would be entered by a side, with a base: the walk stops if that side retains several edges, or if the vertex is
-// visited; else it goes on by the opposite side.
-fn enter(marks: &[u8], anchor: usize, start: Side, w: usize, side: Side, base: u8) -> Step
-    requires { ⌜ (w < length (now marks)) × (length (now marks) ≤ 65536) ⌝ }
-    ensures { λ r. ⌜ Enters (now (marks .entry)) anchor start w side base r ⌝ }
-{
-    let mark = marks[w];
-    if edge_in(mark, side) == 4 {
-        return Step::Stop(StopReason::BranchingAhead);
-    }
-    if mark / 64 == 1 {
-        return Step::Stop(StopReason::VisitedAhead(closes(anchor, start, w, side)));
-    }
-    Step::Next {
-        vertex: w,
-        side: side.inverse(),
-        base,
-    }
-}
-
 // Vertex v as a walk sees it that leaves by a side: canonical by Back, its reverse complement by Front.
-fn seen_by(k: usize, keys: &[u64], marks: &[u8], v: usize, side: Side) -> Kmer
+pub(crate) fn strands_of(k: usize, keys: &[u64], marks: &[u8], v: usize, side: Side) -> Strands
     requires { ⌜ Ready k (now keys) (now marks) × (v < length (now marks)) ⌝ }
-    ensures { λ r. ⌜ valueOf r ≡ seen k (keysFor (now (marks .entry)) (now (keys .entry))) v side ⌝ }
+    ensures { λ r. ⌜ Both k (seen k (keysFor (now (marks .entry)) (now (keys .entry))) v side) r ⌝ }
 {
     let x = Kmer {
         words: [keys[2 * v], keys[2 * v + 1]],
     };
+    let y = x.reverse_complement(k).kmer;
     match side {
-        Side::Front => x.reverse_complement(k).kmer,
-        Side::Back => x,
+        Side::Front => Strands { here: y, other: x },
+        Side::Back => Strands { here: x, other: y },
     }
 }
 
-// The k-mer y, come to by a base, is looked up and entered.
-fn arrive(
+// Both strands with a base appended: it enters the one behind, and its complement the other in front.
+pub(crate) fn rolled(k: usize, strands: Strands, base: Base) -> Strands
+    requires { ⌜ (okK k ≡ true) × (codeIn base < 4) × Both k (valueOf (strands .here)) strands ⌝ }
+    ensures { λ r. ⌜ Both k (forward k (valueOf (strands .here)) (codeIn base)) r ⌝ }
+{
+    let here = strands.here;
+    let other = strands.other;
+    let next = here.roll_forward(k, base).kmer;
+    let turned = other.roll_backward(k, base.complement()).kmer;
+    Strands {
+        here: next,
+        other: turned,
+    }
+}
+
+// The k-mer y, canonical, is looked up; it would be entered by a side, with a base.
+fn look(
     k: usize,
     keys: &[u64],
+    directory: &[u32],
     marks: &[u8],
     anchor: usize,
     start: Side,
     y: Kmer,
+    side: Side,
     base: u8,
 ) -> Step
-    requires { ⌜ Ready k (now keys) (now marks) × (valueOf y < 4 ^ k) ⌝ }
-    ensures { λ r. ⌜ r ≡ arriveIn k (now (keys .entry)) (now (marks .entry)) anchor start (valueOf y) base ⌝ }
+    requires { ⌜ Ready k (now keys) (now marks) × (length (now directory) ≡ 4097) ⌝ }
+    ensures { λ r. ⌜ r ≡ lookIn k (now (keys .entry)) (now (marks .entry)) anchor start (valueOf y) side base ⌝ }
 {
-    let side = entrance_side(k, y);
-    match table::find(marks.len(), keys, y.canonical(k).kmer) {
-        Found::At(w) => enter(marks, anchor, start, w, side, base),
+    match directory::find(k, marks.len(), keys, directory, y) {
+        Found::At(w) => marks::enter(marks, anchor, start, w, side, base),
         Found::Gap(_) => Step::Missing,
     }
 }
 
-// Vertex v is left by a side: by its single retained edge, or the walk stops.
+// A k-mer, come to by a base, is looked up and entered: by Front if it is seen canonical, else by Back.
+fn arrive(
+    k: usize,
+    keys: &[u64],
+    directory: &[u32],
+    marks: &[u8],
+    anchor: usize,
+    start: Side,
+    next: Strands,
+    base: u8,
+) -> Step
+    requires { ⌜ Ready k (now keys) (now marks) × (length (now directory) ≡ 4097) × Both k (valueOf (next .here)) next ⌝ }
+    ensures { λ r. ⌜ r ≡ arriveIn k (now (keys .entry)) (now (marks .entry)) anchor start (valueOf (next .here)) base ⌝ }
+{
+    let here = next.here;
+    let other = next.other;
+    if other.is_less(here) {
+        return look(
+            k,
+            keys,
+            directory,
+            marks,
+            anchor,
+            start,
+            other,
+            Side::Back,
+            base,
+        );
+    }
+    look(
+        k,
+        keys,
+        directory,
+        marks,
+        anchor,
+        start,
+        here,
+        Side::Front,
+        base,
+    )
+}
+
+// Vertex v, seen as its strands say, is left by a side: by its single retained edge, or the walk stops.
 fn leave(
     k: usize,
     keys: &[u64],
+    directory: &[u32],
     marks: &[u8],
     anchor: usize,
     start: Side,
     v: usize,
     side: Side,
+    strands: Strands,
 ) -> Step
-    requires { ⌜ Ready k (now keys) (now marks) × (v < length (now marks)) ⌝ }
+    requires { ⌜ Ready k (now keys) (now marks) × (length (now directory) ≡ 4097) × (v < length (now marks)) × Both k (seen k (keysFor (now marks) (now keys)) v side) strands ⌝ }
     ensures { λ r. ⌜ r ≡ stepIn k (now (keys .entry)) (now (marks .entry)) anchor start v side ⌝ }
 {
-    let edge = edge_in(marks[v], side);
+    let edge = marks::edge_in(marks[v], side);
     if edge == 5 {
         return Step::Stop(StopReason::NoEdge);
     }
@@ -166,8 +161,8 @@ fn leave(
         return Step::Stop(StopReason::SeveralEdges);
     }
     let base = leaving_base(side, edge);
-    let y = seen_by(k, keys, marks, v, side).roll_forward(k, base).kmer;
-    arrive(k, keys, marks, anchor, start, y, base.bits())
+    let next = rolled(k, strands, base);
+    arrive(k, keys, directory, marks, anchor, start, next, base.bits())
 }
 
 // The Rust's test that a new vertex is not the anchor. The anchor is marked from the first step on, so it never is.
@@ -184,17 +179,19 @@ fn extend(anchor: usize, vertex: usize, side: Side, base: u8) -> Step
 pub(crate) fn advance(
     k: usize,
     keys: &[u64],
+    directory: &[u32],
     marks: &mut [u8],
     anchor: usize,
     start: Side,
     v: usize,
     side: Side,
+    strands: Strands,
 ) -> Step
-    requires { ⌜ Ready k (now keys) (now marks) × (v < length (now marks)) × (visited (set (visits (now marks)) v 1) anchor ≡ true) ⌝ }
+    requires { ⌜ Ready k (now keys) (now marks) × (length (now directory) ≡ 4097) × (v < length (now marks)) × (visited (set (visits (now marks)) v 1) anchor ≡ true) × Both k (seen k (keysFor (now marks) (now keys)) v side) strands ⌝ }
     ensures { λ r. ⌜ Advances k (now (keys .entry)) (now (marks .entry)) anchor start v side r (now (marks .exit)) ⌝ }
 {
     marks[v] = marks[v] % 64 + 64;
-    match leave(k, keys, marks, anchor, start, v, side) {
+    match leave(k, keys, directory, marks, anchor, start, v, side, strands) {
         Step::Next { vertex, side, base } => extend(anchor, vertex, side, base),
         Step::Stop(why) => Step::Stop(why),
         Step::Missing => Step::Missing,

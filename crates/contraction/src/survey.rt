@@ -1,14 +1,17 @@
-// All walks without their letters: what there will be to write.
+// All walks, their letters in a trail: what there will be to write.
 ghost use mathlib.Core.Path.{_≡_};
 ghost use mathlib.Core.Bool.{_||_};
-ghost use Prim.Native.Nat.{_≤_, _<_};
+ghost use Prim.Native.Nat.{_+_, _*_, _≤_, _<_};
 ghost use lib.ListN.{length};
-ghost use Rattle.graph.specs.Walks.{isolated, visited};
-ghost use Rattle.contraction.specs.Marks.{Ready, ends, visits};
+ghost use Rattle.dna.specs.Text.{over};
+ghost use Rattle.contraction.specs.Ready.{Ready};
 ghost use Rattle.contraction.specs.Says.{Extracts, Surveys, Unvisited};
+ghost use Rattle.contraction.specs.Trail.{pieceIn, trailIn};
+use super::CLOSED;
 use super::Extracted;
+use super::SKIPPED;
+use super::STOPPED;
 use super::Surveyed;
-use super::step;
 use super::walk;
 use state::Side;
 
@@ -18,59 +21,70 @@ pub(crate) fn either(a: bool, b: bool) -> bool
     if a { true } else { b }
 }
 
-// A vertex that is no anchor: visited or isolated.
-pub(crate) fn is_skipped(marks: &[u8], a: usize) -> bool
-    requires { ⌜ a < length (now marks) ⌝ }
-    ensures { λ r. ⌜ r ≡ (visited (visits (now (marks .entry))) a || isolated (ends (now (marks .entry))) a) ⌝ }
+// An anchor's walks: the Back walk, then the Front walk unless the first has closed. Their letters stand in the trail from a place
+// on, each walk's with a byte behind them that is no letter.
+fn extract(
+    k: usize,
+    keys: &[u64],
+    directory: &[u32],
+    marks: &mut [u8],
+    a: usize,
+    trail: &mut [u8],
+    at: usize,
+) -> Extracted
+    requires { ⌜ Ready k (now keys) (now marks) × (length (now directory) ≡ 4097) × (a < length (now marks)) × (at + length (pieceIn k (now keys) (now marks) a) ≤ length (now trail)) ⌝ }
+    ensures { λ r. ⌜ Extracts k (now (keys .entry)) (now (marks .entry)) a r (now (marks .exit)) (now (trail .entry)) at (now (trail .exit)) ⌝ }
 {
-    let mark = marks[a];
-    if mark / 64 == 1 {
-        return true;
-    }
-    if step::edge_in(mark, Side::Front) == 5 {
-        return step::edge_in(mark, Side::Back) == 5;
-    }
-    false
-}
-
-// An anchor's label: the Back walk, then the Front walk unless the first has closed.
-fn extract(k: usize, keys: &[u64], marks: &mut [u8], a: usize) -> Extracted
-    requires { ⌜ Ready k (now keys) (now marks) × (a < length (now marks)) ⌝ }
-    ensures { λ r. ⌜ Extracts k (now (keys .entry)) (now (marks .entry)) a r (now (marks .exit)) ⌝ }
-{
-    let back = walk::walk(k, keys, marks, a, Side::Back);
+    let back = walk::spell(k, keys, directory, marks, a, Side::Back, trail, at);
+    let half = at + back.bases;
     let stopped = back.last;
     if walk::is_closed(stopped) {
+        trail[half] = CLOSED;
         return Extracted {
             bases: k + back.bases,
+            end: half + 1,
             missing: false,
         };
     }
-    let front = walk::walk(k, keys, marks, a, Side::Front);
+    trail[half] = STOPPED;
+    let front = walk::spell(k, keys, directory, marks, a, Side::Front, trail, half + 1);
+    let end = half + 1 + front.bases;
     let ended = front.last;
+    trail[end] = STOPPED;
     Extracted {
         bases: k + front.bases + back.bases,
+        end: end + 1,
         missing: either(walk::is_missing(stopped), walk::is_missing(ended)),
     }
 }
 
-// Every anchor in ascending order, visited and isolated ones skipped.
-pub(crate) fn survey(k: usize, keys: &[u64], marks: &mut [u8]) -> Surveyed
-    requires { ⌜ Ready k (now keys) (now marks) × Unvisited (now marks) ⌝ }
-    ensures { λ r. ⌜ Surveys k (now (keys .entry)) (now (marks .entry)) (length (now (marks .entry))) (r .labels) (r .bases) (r .missing) (now (marks .exit)) ⌝ }
+// Every anchor in ascending order, visited and isolated ones skipped. The trail has what the labels are to be written from.
+pub(crate) fn survey(
+    k: usize,
+    keys: &[u64],
+    directory: &[u32],
+    marks: &mut [u8],
+    trail: &mut [u8],
+) -> Surveyed
+    requires { ⌜ Ready k (now keys) (now marks) × Unvisited (now marks) × (length (now directory) ≡ 4097) × (2 * length (now marks) ≤ length (now trail)) ⌝ }
+    ensures { λ r. ⌜ Surveys k (now (keys .entry)) (now (marks .entry)) (length (now (marks .entry))) (r .labels) (r .bases) (r .missing) (now (marks .exit)) × (now (trail .exit) ≡ over (trailIn k (now (keys .entry)) (now (marks .entry)) (length (now (marks .entry)))) (now (trail .entry))) ⌝ }
 {
     let mut labels: usize = 0;
     let mut bases: usize = 0;
     let mut missing = false;
+    let mut at: usize = 0;
     let mut a: usize = 0;
     while a < marks.len() {
-        if is_skipped(marks, a) {
+        if marks::is_skipped(marks, a) {
+            trail[at] = SKIPPED;
+            at += 1;
             a += 1;
         } else {
-            let label = extract(k, keys, marks, a);
+            let label = extract(k, keys, directory, marks, a, trail, at);
             labels += 1;
             bases += label.bases;
             missing = either(missing, label.missing);
+            at = label.end;
             a += 1;
         }
     }

@@ -6,10 +6,12 @@ ghost use lib.Dec.{ltb};
 ghost use lib.ListN.{length, take};
 ghost use Rattle.state.specs.Counted.{fourBits};
 ghost use Rattle.graph.specs.Contraction.{contract as contracted, entries, sorted};
-ghost use Rattle.contraction.specs.Marks.{Ready, runIn};
-ghost use Rattle.contraction.specs.Says.{Contracts, Table, Roomy, Unvisited, Lists, finishIn};
+ghost use Rattle.marks.specs.Marks.{visits};
+ghost use Rattle.contraction.specs.Ready.{Ready, runIn};
+ghost use Rattle.contraction.specs.Says.{Contracts, Table, Roomy, Lists, finishIn};
+ghost use Rattle.contraction.specs.Trail.{Trails};
 use super::ContractAnswer;
-use super::digest;
+use super::directory;
 use super::normal;
 use super::survey;
 use super::write;
@@ -33,15 +35,16 @@ fn write_list(
     k: usize,
     keys: &[u64],
     marks: &mut [u8],
+    trail: &[u8],
     labels: &mut [u8],
     starts: &mut [u32],
     lengths: &mut [u32],
 ) -> usize
-    requires { ⌜ Ready k (now keys) (now marks) × Unvisited (now marks) × Roomy k (now keys) (now marks) (length (now labels)) (length (now starts)) (length (now lengths)) ⌝ }
-    ensures { λ r. ⌜ (r ≡ length (runIn k (now (keys .entry)) (now (marks .entry)) (length (now (marks .entry))) .labels)) × (now (marks .exit) ≡ runIn k (now (keys .entry)) (now (marks .entry)) (length (now (marks .entry))) .marks) × Lists (runIn k (now (keys .entry)) (now (marks .entry)) (length (now (marks .entry)))) (sorted (entries 0 (runIn k (now (keys .entry)) (now (marks .entry)) (length (now (marks .entry))) .labels))) (now (labels .entry)) (now (labels .exit)) (now (starts .entry)) (now (starts .exit)) (now (lengths .entry)) (now (lengths .exit)) ⌝ }
+    requires { ⌜ Ready k (now keys) (now marks) × Trails k (now keys) (now marks) (now trail) × Roomy k (now keys) (now marks) (length (now labels)) (length (now starts)) (length (now lengths)) ⌝ }
+    ensures { λ r. ⌜ (r ≡ length (runIn k (now (keys .entry)) (now (marks .entry)) (length (now (marks .entry))) .labels)) × (now (marks .exit) ≡ visits (now (marks .entry))) × Lists (runIn k (now (keys .entry)) (now (marks .entry)) (length (now (marks .entry)))) (sorted (entries 0 (runIn k (now (keys .entry)) (now (marks .entry)) (length (now (marks .entry))) .labels))) (now (labels .entry)) (now (labels .exit)) (now (starts .entry)) (now (starts .exit)) (now (lengths .entry)) (now (lengths .exit)) ⌝ }
 {
-    let count = write::write_labels(k, keys, marks, labels, starts, lengths);
-    digest::settle(marks);
+    let count = write::write_labels(k, keys, marks, trail, labels, starts, lengths);
+    marks::settle(marks);
     normal::normalize_unitigs(labels, starts, lengths, count)
 }
 
@@ -59,10 +62,13 @@ fn contract_fit(
     requires { ⌜ Table k (now keys) (now counts) (now marks) ⌝ }
     ensures { λ r. ⌜ Contracts r (now (labels .exit)) (now (starts .exit)) (now (lengths .exit)) (now (marks .exit)) (finishIn k cutoff (length (now (marks .entry))) (now (keys .entry)) (now (counts .entry)) (now (labels .entry)) (now (starts .entry)) (now (lengths .entry)) (now (marks .entry))) ⌝ }
 {
-    digest::digest(counts, cutoff, marks);
-    let all = survey::survey(k, keys, marks);
+    let mut directory = [0u32; 4097];
+    let mut trail = [0u8; 131072];
+    marks::digest(counts, cutoff, marks);
+    directory::make(k, marks.len(), keys, &mut directory);
+    let all = survey::survey(k, keys, &directory, marks, &mut trail);
     if all.missing {
-        digest::clear(marks);
+        marks::clear(marks);
         return ContractAnswer::MissingVertex;
     }
     if lacks_room(
@@ -72,11 +78,10 @@ fn contract_fit(
         all.bases,
         all.labels,
     ) {
-        digest::clear(marks);
+        marks::clear(marks);
         return ContractAnswer::NoRoom;
     }
-    digest::unvisit(marks);
-    let count = write_list(k, keys, marks, labels, starts, lengths);
+    let count = write_list(k, keys, marks, &trail, labels, starts, lengths);
     ContractAnswer::Contracted {
         labels: count,
         bases: all.bases,

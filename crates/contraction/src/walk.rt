@@ -3,8 +3,8 @@ ghost use mathlib.Core.Path.{_≡_};
 ghost use Prim.Native.Nat.{_+_, _≤_, _<_};
 ghost use lib.ListN.{length};
 ghost use Rattle.graph.specs.Walks.{closed, missing};
-ghost use Rattle.contraction.specs.Marks.{Ready, walkIn};
-ghost use Rattle.contraction.specs.Says.{Walks, Spells};
+ghost use Rattle.contraction.specs.Ready.{Ready, walkIn};
+ghost use Rattle.contraction.specs.Says.{Spells};
 use super::Walked;
 use super::step;
 use graph::Step;
@@ -38,57 +38,30 @@ pub(crate) fn is_missing(last: Step) -> bool
     }
 }
 
-// The walk from an anchor by a side, without its letters.
-pub(crate) fn walk(k: usize, keys: &[u64], marks: &mut [u8], anchor: usize, start: Side) -> Walked
-    requires { ⌜ Ready k (now keys) (now marks) × (anchor < length (now marks)) ⌝ }
-    ensures { λ r. ⌜ Walks k (now (keys .entry)) (now (marks .entry)) anchor start r (now (marks .exit)) ⌝ }
-{
-    let mut bases: usize = 0;
-    let mut v = anchor;
-    let mut s = start;
-    loop {
-        match step::advance(k, keys, marks, anchor, start, v, s) {
-            Step::Next { vertex, side, .. } => {
-                v = vertex;
-                s = side;
-                bases += 1;
-            }
-            Step::Stop(why) => {
-                return Walked {
-                    bases,
-                    last: Step::Stop(why),
-                };
-            }
-            Step::Missing => {
-                return Walked {
-                    bases,
-                    last: Step::Missing,
-                };
-            }
-        }
-    }
-}
-
-// The same walk, its letters written from a place of the buffer on.
+// The walk from an anchor by a side, its letters written from a place of the buffer on.
 pub(crate) fn spell(
     k: usize,
     keys: &[u64],
+    directory: &[u32],
     marks: &mut [u8],
     anchor: usize,
     start: Side,
     buffer: &mut [u8],
     at: usize,
 ) -> Walked
-    requires { ⌜ Ready k (now keys) (now marks) × (anchor < length (now marks)) × (at + length (walkIn k (now keys) (now marks) anchor start .bases) ≤ length (now buffer)) ⌝ }
+    requires { ⌜ Ready k (now keys) (now marks) × (length (now directory) ≡ 4097) × (anchor < length (now marks)) × (at + length (walkIn k (now keys) (now marks) anchor start .bases) ≤ length (now buffer)) ⌝ }
     ensures { λ r. ⌜ Spells k (now (keys .entry)) (now (marks .entry)) anchor start r (now (marks .exit)) (now (buffer .entry)) at (now (buffer .exit)) ⌝ }
 {
     let mut bases: usize = 0;
     let mut v = anchor;
     let mut s = start;
+    let mut strands = step::strands_of(k, keys, marks, anchor, start);
     loop {
-        match step::advance(k, keys, marks, anchor, start, v, s) {
+        match step::advance(k, keys, directory, marks, anchor, start, v, s, strands) {
             Step::Next { vertex, side, base } => {
-                buffer[at + bases] = step::base_of(base).to_ascii();
+                let letter = step::base_of(base);
+                strands = step::rolled(k, strands, letter);
+                buffer[at + bases] = letter.to_ascii();
                 v = vertex;
                 s = side;
                 bases += 1;

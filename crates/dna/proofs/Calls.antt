@@ -6,6 +6,7 @@ use native.Mathlib.Omega.{arith}
 use borrow.Author.Tests.{lt-ltb, le-ltb}
 use lib.ListN.{length}
 use Rattle.lemmas.proofs.Building.{Built, built-all}
+use Rattle.dna.specs.Text.{over}
 use Rattle.dna.specs.Answer.{Answer, gives, refuses, fill}
 use Rattle.dna.specs.Calls.{codeIn, writtenAnswer, Writes}
 use Rattle.dna.specs.declared.Base.{Base}
@@ -53,3 +54,8 @@ module _ (text slice₀ : List ℕ) where
   writes-all slice n e h b =
       rw (le-ltb (length slice₀) (length text) h)
       (record { answer = rw e; slice = built-all text slice₀ slice n b (omega arith) })
+
+-- A text that has room is written.
+pub writes-over : (text slice₀ : List ℕ) {r : Written} {slice : List ℕ} → Writes r slice (fill 9 text slice₀) → length text ≤ length slice₀
+    → slice ≡ over text slice₀
+writes-over text slice₀ w h = rw (le-ltb (length slice₀) (length text) h) at (w .slice)

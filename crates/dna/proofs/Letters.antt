@@ -1,12 +1,12 @@
 -- Laws of the letters. Assumes nothing.
-use mathlib.Core.Path.{_≡_, refl}
-use mathlib.Core.Bool.{Bool, true, false, cond}
+use mathlib.Core.Path.{_≡_, refl, _∙_}
+use mathlib.Core.Bool.{Bool, true, false, cond, _&&_}
 use mathlib.Core.List.{List, [], _∷_}
-use Prim.Native.Nat.{ℕ, zero, suc, _-_, _≤_, _<_}
+use Prim.Native.Nat.{ℕ, zero, suc, _-_, _/_, _^_, _≤_, _<_}
 use native.Mathlib.Nat.{not-suc-le-zero}
 use native.Mathlib.Omega.{arith}
-use borrow.Author.Tests.{lt-ltb, le-ltb, ltb-true, ltb-false}
-use lib.Bits.{bitXor}
+use borrow.Author.Tests.{lt-ltb, le-ltb, ltb-true, ltb-false, eqb-true}
+use lib.Bits.{bitAnd, bitXor}
 use lib.Dec.{eqb, ltb}
 use Rattle.lemmas.proofs.Tests.{choose}
 use Rattle.lemmas.proofs.Tables.{everywhere}
@@ -21,6 +21,10 @@ code-le b =
     (λ _. choose (λ c. c ≤ 4) (among b (bytes "Cc")) (λ _. omega arith)
     (λ _. choose (λ c. c ≤ 4) (among b (bytes "Gg")) (λ _. omega arith)
     (λ _. choose (λ c. c ≤ 4) (among b (bytes "TtUu")) (λ _. omega arith) (λ _. omega arith))))
+
+-- What is no base is N.
+pub no-base : (b : ℕ) → isBase b ≡ false → codeOf b ≡ 4
+no-base b e = omega (arith, code-le b, ltb-false (codeOf b) 4 e)
 
 -- A code's letter reads as that code.
 pub code-letter : (c : ℕ) → c ≤ 4 → codeOf (letterOf c) ≡ c
@@ -54,12 +58,20 @@ pub valid-bits : (b : ℕ) → b < 256 → eqb (validBits b) (codeOf b) ≡ isBa
 unfolding openText openLetters
 valid-bits b h = everywhere (λ x. eqb (validBits x) (codeOf x)) (λ x. isBase x) 256 refl b h
 
+pub valid-code : (b : ℕ) → b < 256 → isBase b ≡ true → validBits b ≡ codeOf b
+valid-code b h e = eqb-true (validBits b) (codeOf b) (valid-bits b h ∙ e)
+
 -- The bases are the ten letters ACGTUacgtu.
 pub base-letters : (b : ℕ) → b < 256 → isBase b ≡ among b (bytes "ACGTUacgtu")
 unfolding openText openLetters
 base-letters b h = everywhere (λ x. isBase x) (λ x. among x (bytes "ACGTUacgtu")) 256 refl b h
 
--- On N they are 0.
+-- The bases are letters, those at the set bits of a mask over the 32 letters of a case.
+pub base-mask : (b : ℕ) → b < 256 → isBase b ≡ eqb (b / 64) 1 && eqb (bitAnd (3145866 / 2 ^ bitAnd b 31) 1) 1
+unfolding openText openLetters
+base-mask b h = everywhere (λ x. isBase x) (λ x. eqb (x / 64) 1 && eqb (bitAnd (3145866 / 2 ^ bitAnd x 31) 1) 1) 256 refl b h
+
+-- On N the two bits are 0.
 pub valid-bits-N : validBits 78 ≡ 0
 unfolding openLetters
 valid-bits-N = refl

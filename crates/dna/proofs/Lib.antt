@@ -7,3 +7,4 @@ pub mod Reversal
 pub mod Iupac
 pub mod Calls
 pub mod Overwriting
+pub mod Inside

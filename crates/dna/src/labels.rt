@@ -1,4 +1,4 @@
-// Labels: reversal and rotation of byte texts.
+// Labels: copies, reversal and rotation of byte texts.
 ghost use mathlib.Core.Path.{_≡_};
 ghost use Rattle.dna.specs.Answer.{fill};
 ghost use Rattle.dna.specs.Letters.{reverseComplement};
@@ -6,6 +6,22 @@ ghost use Rattle.dna.specs.Order.{rotation, leastStart};
 ghost use Rattle.dna.specs.Calls.{Writes};
 use super::Written;
 use super::complement_ascii;
+
+// A text, written from out's first cell on.
+pub fn copy(text: &[u8], out: &mut [u8]) -> Written
+    ensures { λ r. ⌜ Writes r (now (out .exit)) (fill 9 (now (text .entry)) (now (out .entry))) ⌝ }
+{
+    let n = text.len();
+    if out.len() < n {
+        return Written::NoRoom;
+    }
+    let mut i = 0;
+    while i < n {
+        out[i] = text[i];
+        i += 1;
+    }
+    Written::Done(n)
+}
 
 // The reverse complement of a label, written from out's first cell on; a byte that is no base becomes N.
 pub fn reverse_complement_label(label: &[u8], out: &mut [u8]) -> Written

@@ -8,6 +8,7 @@ ghost use Rattle.dna.specs.Calls.{codeIn, bitsWhere};
 mod labels;
 mod tables;
 
+pub use labels::copy;
 pub use labels::least_rotation_start;
 pub use labels::minimal_rotation;
 pub use labels::reverse_complement_label;
@@ -69,12 +70,14 @@ impl Base {
     pub fn from_ascii(byte: u8) -> Base
         ensures { λ r. ⌜ codeIn r ≡ codeOf byte ⌝ }
     {
-        match ascii_code(byte) {
+        if !is_dna_ascii(byte) {
+            return Base::N;
+        }
+        match valid_ascii_base_bits(byte) {
             0 => Base::A,
             1 => Base::C,
             2 => Base::G,
-            3 => Base::T,
-            _ => Base::N,
+            _ => Base::T,
         }
     }
 
@@ -105,10 +108,14 @@ fn ascii_code(byte: u8) -> u8
     ASCII_BASE_BITS[byte as usize]
 }
 
+// The 64 letters of either case stand from 64 on; of each 32, the set bits of the word are at the places of A, C, G, T and U.
 pub fn is_dna_ascii(byte: u8) -> bool
     ensures { λ r. ⌜ r ≡ isBase byte ⌝ }
 {
-    ascii_code(byte) < INVALID_BASE_BITS
+    if byte >> 6 != 1 {
+        return false;
+    }
+    (0x0030_008a_u32 >> (byte & 31)) & 1 == 1
 }
 
 pub fn complement_ascii(byte: u8) -> u8
@@ -120,9 +127,8 @@ pub fn complement_ascii(byte: u8) -> u8
 pub fn ascii_base_bits(byte: u8) -> AsciiBits
     ensures { λ r. ⌜ r ≡ bitsWhere (λ c. c) byte ⌝ }
 {
-    let bits = ascii_code(byte);
-    if bits < INVALID_BASE_BITS {
-        return AsciiBits::Bits(bits);
+    if is_dna_ascii(byte) {
+        return AsciiBits::Bits(valid_ascii_base_bits(byte));
     }
     AsciiBits::NoBase
 }

@@ -8,6 +8,7 @@ ghost use Rattle.dna.specs.Text.{over};
 ghost use Rattle.graph.specs.Fasta.{recordOf, records, within, fasta};
 ghost use Rattle.fasta.specs.Sizes.{sizeOf};
 ghost use Rattle.fasta.specs.Says.{Lists};
+use dna::copy;
 
 // The bytes written; the text exceeds its slice; an index slice is shorter than the count, or an entry lies past the labels.
 pub enum FastaAnswer {
@@ -59,18 +60,6 @@ fn has_room(lengths: &[u32], count: usize, room: usize) -> bool
         i += 1;
     }
     true
-}
-
-// A text, from the first cell on.
-fn copy(text: &[u8], out: &mut [u8])
-    requires { ⌜ length (now text) ≤ length (now out) ⌝ }
-    ensures { λ _. ⌜ now (out .exit) ≡ over (now (text .entry)) (now (out .entry)) ⌝ }
-{
-    let mut i = 0;
-    while i < text.len() {
-        out[i] = text[i];
-        i += 1;
-    }
 }
 
 // The record of one label, from the first cell on; its size.

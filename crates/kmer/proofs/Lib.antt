@@ -3,6 +3,7 @@ pub mod Moves
 pub mod Turned
 pub mod Swaps
 pub mod Halves
+pub mod Ahead
 pub mod Telling
 pub mod Bounds
 pub mod Verdicts

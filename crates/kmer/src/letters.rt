@@ -59,11 +59,12 @@ fn write(k: usize, x: Kmer, out: &mut [u8])
     ensures { λ _. ⌜ now (out .exit) ≡ over (letters k (valueOf x)) (now (out .entry)) ⌝ }
 {
     leading(k, x, k % 4, out);
+    let quads = quads::table();
     let count = k / 4;
     let mut i: usize = 0;
     while i < count {
         let byte = byte_of(x, count - 1 - i);
-        put_quad(quads::quad(byte), k % 4 + 4 * i, out);
+        put_quad(quads[byte as usize], k % 4 + 4 * i, out);
         i += 1;
     }
 }

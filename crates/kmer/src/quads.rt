@@ -1,8 +1,9 @@
 // The four letters of each byte.
 ghost use mathlib.Core.Path.{_≡_};
+ghost use Rattle.lemmas.proofs.Tables.{made};
 ghost use Rattle.kmer.specs.Kmer.{quadOf};
 
-// The four letters of a byte, whose rule over all entries is the contract of `quad`: top two bits first, first letter in the lowest byte.
+// The four letters of a byte, whose rule over all entries is the contract of `table`: top two bits first, first letter in the lowest byte.
 pub const ASCII_QUADS: [u32; 256] = [
     0x4141_4141,
     0x4341_4141,
@@ -262,8 +263,8 @@ pub const ASCII_QUADS: [u32; 256] = [
     0x5454_5454,
 ];
 
-pub(crate) fn quad(byte: u8) -> u32
-    ensures { λ r. ⌜ r ≡ quadOf byte ⌝ }
+pub(crate) fn table() -> [u32; 256]
+    ensures { λ r. ⌜ r ≡ made quadOf 0 256 ⌝ }
 {
-    ASCII_QUADS[byte as usize]
+    ASCII_QUADS
 }

@@ -7,3 +7,4 @@ pub mod TakingLabels
 pub mod Listing
 pub mod Whole
 pub mod Says
+pub mod Within

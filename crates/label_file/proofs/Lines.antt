@@ -1,13 +1,17 @@
 -- The line of a refusal, and a line put into a text. Assumes nothing.
 use mathlib.Core.Path.{_≡_, refl, subst, _∙_}
+use mathlib.Core.Bool.{Bool, true, false, cond}
 use mathlib.Core.List.{List, [], _∷_}
 use Prim.Native.Nat.{ℕ, suc, _-_, _≤_, _<_}
 use native.Mathlib.Omega.{arith}
-use borrow.Author.Tests.{lt-ltb, le-ltb}
 use borrow.Rule.Slice.PartAt.{part-to-end}
+use lib.Dec.{ltb}
 use lib.ListN.{length, take, drop, set, length-set, drop-of-length-le}
 use Rattle.dna.specs.Text.{over}
-use Rattle.dna.specs.Answer.{fill}
+use Rattle.dna.specs.Answer.{gives, refuses, fill}
+use Rattle.dna.specs.Calls.{Writes}
+use Rattle.dna.specs.declared.Written.{Written}
+use Rattle.dna.specs.declared.Written.the-variants as written
 use Rattle.label_file.specs.Output.{decimal, refusal}
 use Rattle.label_file.specs.Says.{Fills, Prefixes}
 use Rattle.label_file.specs.declared.ListAnswer.{ListAnswer}
@@ -45,13 +49,23 @@ module _ (line second third : List ℕ) (number at i j : ℕ) (l : length line �
       drop-set third (j - 1) 32 (omega arith) ∙ rw (ej, q .text, middle) in
       drop-set (set third (j - 1) 32) (j - 2) 82 (simp length-set (omega arith)) ∙ rw (ej₂, behind)
 
-module _ (line text : List ℕ) where
-  pub fills-none : length text < length line → Fills NoRoom text (fill 11 line text)
-  fills-none h = rw (lt-ltb (length text) (length line) h) (record { answer = refl; text-after = refl })
+-- What a copy of a line answers, as the listing's answer.
+abbrev pub printing : Written → ListAnswer
+printing (written.Done n) = Printed n
+printing written.NoRoom = NoRoom
 
-  pub fills-all : (after : List ℕ) → length line ≤ length text → after ≡ over line text
-      → Fills (Printed (length line)) after (fill 11 line text)
-  fills-all after h e = rw (le-ltb (length text) (length line) h) (record { answer = refl; text-after = e })
+refilled : (t : Bool) (n : ℕ) (text text′ after : List ℕ) (r : Written)
+    → Writes r after (cond t (record { answer = refuses 9 []; slice = text }) (record { answer = gives n; slice = text′ }))
+    → Fills (printing r) after (cond t (record { answer = refuses 11 []; slice = text }) (record { answer = gives n; slice = text′ }))
+refilled true n text text′ after (written.Done m) w = let e = w .answer in let z : _≡_ {A = ℕ} 0 1 = cc in absurd (omega arith)
+refilled true n text text′ after written.NoRoom w = record { answer = refl; text-after = w .slice }
+refilled false n text text′ after (written.Done m) w = record { answer = w .answer; text-after = w .slice }
+refilled false n text text′ after written.NoRoom w = let e = w .answer in let z : _≡_ {A = ℕ} 0 1 = cc in absurd (omega arith)
+
+-- A copy of a line and the line printed differ in the refusal's number only.
+pub fills-copied : (line text : List ℕ) {after : List ℕ} (r : Written) → Writes r after (fill 9 line text)
+    → Fills (printing r) after (fill 11 line text)
+fills-copied line text r w = refilled (ltb (length text) (length line)) (length line) text (over line text) _ r w
 
 -- The end of the line of 64 bytes, put into the text.
 pub fills-end : (line text after : List ℕ) (r : ListAnswer) (number at start : ℕ) → length line ≡ 64 → drop start line ≡ refusal number at

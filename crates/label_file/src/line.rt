@@ -2,11 +2,12 @@
 ghost use mathlib.Core.Path.{_≡_};
 ghost use Prim.Native.Nat.{_+_, _^_, _≤_, _<_};
 ghost use lib.ListN.{length, drop};
-ghost use Rattle.dna.specs.Text.{over};
 ghost use Rattle.dna.specs.Answer.{fill};
 ghost use Rattle.label_file.specs.Output.{refusal};
 ghost use Rattle.label_file.specs.Says.{Fills, Prefixes};
 use super::ListAnswer;
+use dna::Written;
+use dna::copy;
 
 // A number in decimal in front of a place; the place of its first digit.
 fn put_decimal(number: usize, out: &mut [u8], at: usize) -> usize
@@ -24,27 +25,14 @@ fn put_decimal(number: usize, out: &mut [u8], at: usize) -> usize
     i
 }
 
-// A text, from the first cell on.
-fn copy(text: &[u8], out: &mut [u8])
-    requires { ⌜ length (now text) ≤ length (now out) ⌝ }
-    ensures { λ _. ⌜ now (out .exit) ≡ over (now (text .entry)) (now (out .entry)) ⌝ }
-{
-    let mut i = 0;
-    while i < text.len() {
-        out[i] = text[i];
-        i += 1;
-    }
-}
-
 // A line in the text, where it fits.
 fn put_line(line: &[u8], text: &mut [u8]) -> ListAnswer
     ensures { λ r. ⌜ Fills r (now (text .exit)) (fill 11 (now (line .entry)) (now (text .entry))) ⌝ }
 {
-    if text.len() < line.len() {
-        return ListAnswer::NoRoom;
+    match copy(line, text) {
+        Written::Done(n) => ListAnswer::Printed(n),
+        Written::NoRoom => ListAnswer::NoRoom,
     }
-    copy(line, text);
-    ListAnswer::Printed(line.len())
 }
 
 // `R`, the refusal's number, the record's, and a newline, at the end of a line of 64 bytes; the place of the first.

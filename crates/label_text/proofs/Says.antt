@@ -1,14 +1,17 @@
 -- The definition of what packing answers tells its cases apart, so its contract allows one result and one content of the slice; what
 -- each answer has to show. Assumes nothing.
-use mathlib.Core.Path.{_≡_, refl, sym, _∙_}
-use mathlib.Core.List.{List}
+use mathlib.Core.Path.{_≡_, refl, sym, ap, _∙_}
+use mathlib.Core.List.{List, []}
 use Prim.Native.Nat.{ℕ, _+_, _-_, _≤_, _<_}
 use native.Mathlib.Omega.{arith}
 use borrow.Author.Tests.{lt-ltb, le-ltb}
+use lib.Dec.{ltb}
 use lib.ListN.{length}
 use lib.Seq.{paste, take-take}
+use Rattle.lemmas.proofs.Tests.{choose}
 use Rattle.dna.specs.Text.{part}
 use Rattle.dna.specs.Answer.{Filled}
+use Rattle.dna.proofs.Inside.{Inside, refused-inside, fill-inside}
 use Rattle.label_text.specs.Lines.{labelsIn}
 use Rattle.label_text.specs.Packing.{packed, packText, packAnswer, Packs}
 use Rattle.label_text.specs.Says.{Measures}
@@ -30,6 +33,17 @@ pack-inj pack.NoRoom pack.NoRoom h = refl
 
 pub packs-one : (r s : PackAnswer) {out out′ : List ℕ} {f : Filled} → Packs r out f → Packs s out′ f → (r ≡ s) × (out ≡ out′)
 packs-one r s p q = (pack-inj r s (p .answer ∙ sym (q .answer)), p .slice ∙ sym (q .slice))
+
+module _ (K cutoff : ℕ) (text slice : List ℕ) where
+  pack-inside : Inside (packText K cutoff text slice)
+  unfolding packText
+  pack-inside =
+      let file = packed K cutoff (labelsIn text) in
+      choose Inside (ltb 16384 (length file)) (λ _. refused-inside 13 [] slice) (λ _. fill-inside 9 file slice)
+
+  -- A file's size lies within the slice.
+  pub packs-within : {r : PackAnswer} {out : List ℕ} → Packs r out (packText K cutoff text slice) → (n : ℕ) → r ≡ pack.Packed n → n ≤ length out
+  packs-within p n e = rw (p .slice) (pack-inside n (sym (p .answer) ∙ ap packAnswer e))
 
 module _ (K cutoff : ℕ) (text slice : List ℕ) (r : Size) (file : List ℕ) (m : Measures K cutoff text r file) where
   pub packs-large : r ≡ files.TooLarge → Packs pack.TooLarge slice (packText K cutoff text slice)

@@ -1,1 +1,1 @@
-pub mod AtMost
+pub mod Spelled

@@ -1,5 +1,8 @@
 // `labels K CUTOFF`: FASTA or plain lines on standard input, as a label file on standard output.
-ghost use Rattle.labels.specs.AtMost.{AtMost};
+ghost use mathlib.Core.Path.{_≡_};
+ghost use Prim.Native.Nat.{_≤_};
+ghost use lib.ListN.{length};
+ghost use Rattle.labels.specs.Spelled.{spelled, Given};
 use label_text::PackAnswer;
 use libc::STDERR_FILENO;
 use libc::STDOUT_FILENO;
@@ -17,7 +20,7 @@ fn complain(what: &[u8]) {
 
 // Decimal digits, at least one, that say a number not above a limit.
 fn number_of(digits: &[u8], most: u32) -> Number
-    ensures { λ r. ⌜ AtMost r most ⌝ }
+    ensures { λ r. ⌜ r ≡ spelled (now (digits .entry)) most ⌝ }
 {
     if digits.len() == 0 {
         return Number::Bad;
@@ -43,7 +46,7 @@ fn number_of(digits: &[u8], most: u32) -> Number
 
 // The number that an argument says. One that is missing, or too long for the space, comes as no digits.
 fn argument(i: usize, most: u32) -> Number
-    ensures { λ r. ⌜ AtMost r most ⌝ }
+    ensures { λ r. ⌜ Given most r ⌝ }
 {
     let mut space = [0u8; 64];
     let n = os::arg(i, &mut space);
@@ -54,11 +57,9 @@ fn too_large() {
     complain(b"labels: the label file would be over 16384 bytes\n");
 }
 
-fn print(file: &[u8], n: usize) {
-    if file.len() < n {
-        too_large();
-        return;
-    }
+fn print(file: &[u8], n: usize)
+    requires { ⌜ n ≤ length (now file) ⌝ }
+{
     if !io::write_all(STDOUT_FILENO, &file[..n]) {
         complain(b"labels: standard output could not be written\n");
     }

@@ -16,18 +16,18 @@ use Rattle.laws.specs.Trails.{Place, isNext, Trail, Trail.ends, Trail.go
 use Rattle.laws.proofs.Steps.{came, came-lt}
 
 -- How many vertices are not visited.
-unfoldable unseen : List ℕ → ℕ
+unfoldable pub unseen : List ℕ → ℕ
 unseen [] = 0
 unseen (x ∷ marks) = cond (eqb x 1) (unseen marks) (suc (unseen marks))
 
-unseen-le : (marks : List ℕ) → unseen marks ≤ length marks
+pub unseen-le : (marks : List ℕ) → unseen marks ≤ length marks
 unfolding unseen
 unseen-le [] = omega arith
 unseen-le (x ∷ marks) =
     let ih = unseen-le marks in
     choose (λ k. k ≤ suc (length marks)) (eqb x 1) (λ _. omega arith) (λ _. omega arith)
 
-unseen-falls : (marks : List ℕ) (v : ℕ) → v < length marks → visited marks v ≡ false → suc (unseen (set marks v 1)) ≡ unseen marks
+pub unseen-falls : (marks : List ℕ) (v : ℕ) → v < length marks → visited marks v ≡ false → suc (unseen (set marks v 1)) ≡ unseen marks
 unfolding unseen
 unseen-falls [] v l h = absurd (omega arith)
 unseen-falls (x ∷ marks) zero l h = rw h

@@ -3,11 +3,9 @@ use mathlib.Core.Path.{_≡_, refl, sym, _∙_}
 use mathlib.Core.Bool.{Bool, true, false}
 use Prim.Native.Nat.{ℕ, zero, suc, _+_, _-_, _/_, _≤_, _<_}
 use native.Mathlib.Decide.{decLt}
-use native.Mathlib.Nat.{le-trans}
 use native.Mathlib.Omega.{arith}
-use borrow.Author.Tests.{ltb-true, lt-ltb, le-ltb}
-use lib.Dec.{ltb}
-use Rattle.lemmas.proofs.Tests.{choose, never}
+use borrow.Author.Tests.{lt-ltb, le-ltb}
+use Rattle.lemmas.proofs.Tests.{never}
 use Rattle.table.specs.Search.{halving}
 
 abbrev pub middle : ℕ → ℕ → ℕ
@@ -28,42 +26,32 @@ module _ (passes : ℕ → Bool) where
   halve-end zero lo hi h = refl
   halve-end (suc most) lo hi h = rw (le-ltb lo hi h)
 
-  -- It ends no higher than it may.
-  pub halving-within : (most lo hi : ℕ) → lo ≤ hi → halving passes most lo hi ≤ hi
-  unfolding halving
-  halving-within zero lo hi h = h
-  halving-within (suc most) lo hi h =
-      choose (λ (r : ℕ). r ≤ hi) (ltb lo hi)
-      (λ t. choose (λ (r : ℕ). r ≤ hi) (passes (middle lo hi)) (λ p. halving-within most (middle lo hi + 1) hi (omega (arith, ltb-true lo hi t)))
-      (λ p. le-trans (halving-within most lo (middle lo hi) (omega arith)) (omega arith)))
-      (λ t. h)
-
-  -- What is left of the search is the whole of it, and halving it often enough is allowed.
-  pub record Left (n lo hi : ℕ) : Type 0 where
+  -- What is left of the search from l to h is the whole of it, and halving it often enough is allowed.
+  pub record Left (n l h lo hi : ℕ) : Type 0 where
     pub most : ℕ
     pub enough : hi - lo ≤ most
-    pub same : halving passes n 0 n ≡ halving passes most lo hi
+    pub same : halving passes n l h ≡ halving passes most lo hi
 
-  pub left-all : (n : ℕ) → Left n 0 n
-  left-all n = record { most = n; enough = omega arith; same = refl }
+  pub left-all : (n l h : ℕ) → h ≤ n → Left n l h l h
+  left-all n l h e = record { most = n; enough = omega arith; same = refl }
 
-  module _ {n lo hi : ℕ} (l : Left n lo hi) where
-    pub left-above : lo < hi → passes (middle lo hi) ≡ true → Left n (middle lo hi + 1) hi
-    left-above h e = go (l .most) (l .enough) (l .same)
+  module _ {n l h lo hi : ℕ} (left : Left n l h lo hi) where
+    pub left-above : lo < hi → passes (middle lo hi) ≡ true → Left n l h (middle lo hi + 1) hi
+    left-above k e = go (left .most) (left .enough) (left .same)
       where
-        go : (m : ℕ) → hi - lo ≤ m → halving passes n 0 n ≡ halving passes m lo hi → Left n (middle lo hi + 1) hi
+        go : (m : ℕ) → hi - lo ≤ m → halving passes n l h ≡ halving passes m lo hi → Left n l h (middle lo hi + 1) hi
         go zero u s = absurd (omega arith)
-        go (suc m) u s = record { most = m; enough = omega arith; same = s ∙ halve-up m lo hi h e }
+        go (suc m) u s = record { most = m; enough = omega arith; same = s ∙ halve-up m lo hi k e }
 
-    pub left-below : lo < hi → passes (middle lo hi) ≡ false → Left n lo (middle lo hi)
-    left-below h e = go (l .most) (l .enough) (l .same)
+    pub left-below : lo < hi → passes (middle lo hi) ≡ false → Left n l h lo (middle lo hi)
+    left-below k e = go (left .most) (left .enough) (left .same)
       where
-        go : (m : ℕ) → hi - lo ≤ m → halving passes n 0 n ≡ halving passes m lo hi → Left n lo (middle lo hi)
+        go : (m : ℕ) → hi - lo ≤ m → halving passes n l h ≡ halving passes m lo hi → Left n l h lo (middle lo hi)
         go zero u s = absurd (omega arith)
-        go (suc m) u s = record { most = m; enough = omega arith; same = s ∙ halve-down m lo hi h e }
+        go (suc m) u s = record { most = m; enough = omega arith; same = s ∙ halve-down m lo hi k e }
 
-    pub left-none : hi ≤ lo → lo ≡ halving passes n 0 n
-    left-none h = sym (l .same ∙ halve-end (l .most) lo hi h)
+    pub left-none : hi ≤ lo → lo ≡ halving passes n l h
+    left-none k = sym (left .same ∙ halve-end (left .most) lo hi k)
 
   -- Where all places before r pass and none from r on, halving ends at r.
   module _ (r hi₀ : ℕ) (before : (i : ℕ) → i < r → passes i ≡ true) (after : (i : ℕ) → r ≤ i → i < hi₀ → passes i ≡ false) where

@@ -1,10 +1,8 @@
--- The enums' definitions tell their cases apart. Assumes nothing.
+-- The enum's definition tells its cases apart. Assumes nothing.
 use mathlib.Core.Path.{_≡_, refl}
-use Rattle.table.specs.Calls.{fitAnswer, storeAnswer}
+use Rattle.table.specs.Calls.{fitAnswer}
 use Rattle.table.specs.declared.FitAnswer.{FitAnswer}
 use Rattle.table.specs.declared.FitAnswer.the-variants.{Fit, Unfit, UnsupportedK}
-use Rattle.table.specs.declared.StoreAnswer.{StoreAnswer}
-use Rattle.table.specs.declared.StoreAnswer.the-variants.{Stored, Full}
 
 -- What the test of a table found is known by its answer.
 pub fit-inj : (a b : FitAnswer) → fitAnswer a ≡ fitAnswer b → a ≡ b
@@ -17,10 +15,3 @@ fit-inj Unfit (UnsupportedK k) h = cc
 fit-inj (UnsupportedK k) Fit h = cc
 fit-inj (UnsupportedK k) Unfit h = cc
 fit-inj (UnsupportedK k) (UnsupportedK l) h = cc
-
--- So is what became of a k-mer.
-pub store-inj : (a b : StoreAnswer) → storeAnswer a ≡ storeAnswer b → a ≡ b
-store-inj (Stored m) (Stored n) h = cc
-store-inj (Stored m) Full h = cc
-store-inj Full (Stored n) h = cc
-store-inj Full Full h = refl

@@ -1,3 +1,3 @@
 pub mod Search
-pub mod Insert
 pub mod Calls
+pub mod Join

@@ -1,5 +1,5 @@
 -- Binary search in a list of keys. Assumes nothing.
-use Prim.Native.Nat.{ℕ, zero, suc, _+_, _-_, _*_, _/_}
+use Prim.Native.Nat.{ℕ, zero, suc, _+_, _-_, _*_, _/_, min}
 use mathlib.Core.Bool.{Bool, cond, _&&_}
 use mathlib.Core.List.{List}
 use lib.Dec.{ltb, eqb}
@@ -23,7 +23,18 @@ halving passes (suc most) lo hi =
     let next = cond (passes middle) above below in
     cond (ltb lo hi) next lo
 
--- The place at which the search for x ends.
+-- The place at which the search for x between two places ends.
+unfoldable pub placeBetween : List ℕ → ℕ → ℕ → ℕ → ℕ
+placeBetween ks lo hi x = halving (λ i. ltb (getD ks i 0) x) (length ks) lo hi
+
+-- x stands at that place, or it is not found between the two, which are cut to the list.
+unfoldable pub findBetween : List ℕ → ℕ → ℕ → ℕ → Found
+findBetween ks lo hi x =
+    let end = min hi (length ks) in
+    let i = placeBetween ks (min lo end) end x in
+    cond (ltb i end && eqb (getD ks i 0) x) (At i) (Gap i)
+
+-- The place at which the search for x among all ends.
 unfoldable pub placeOf : List ℕ → ℕ → ℕ
 placeOf ks x = halving (λ i. ltb (getD ks i 0) x) (length ks) 0 (length ks)
 

@@ -4,12 +4,13 @@ ghost use Prim.Native.Nat.{min};
 ghost use Rattle.graph.specs.Table.{capacity as room};
 
 mod fitting;
+mod joining;
 mod search;
-mod storing;
 
 pub use fitting::fit;
+pub use joining::join;
 pub use search::find;
-pub use storing::store;
+pub use search::find_between;
 
 // Where a k-mer stands among the keys, or where it would be put in.
 pub enum Found {
@@ -23,10 +24,12 @@ pub enum FitAnswer {
     UnsupportedK(usize),
 }
 
-// The number of vertices stored afterwards, or that there is no room for one more.
-pub enum StoreAnswer {
-    Stored(usize),
+// The number of vertices afterwards; no room for so many; or that there are fewer new ones than said, or places that fall or
+// are past the end.
+pub enum JoinAnswer {
+    Joined(usize),
     Full,
+    Misplaced,
 }
 
 fn least(a: usize, b: usize) -> usize

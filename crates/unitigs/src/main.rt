@@ -1,6 +1,7 @@
 // `unitigs`: a label file on standard input; its unitigs as FASTA, or the line of a refusal, on standard output.
 ghost use mathlib.Core.Path.{_≡_};
-ghost use lib.ListN.{take, replicate};
+ghost use Prim.Native.Nat.{_≤_};
+ghost use lib.ListN.{length, take, replicate};
 ghost use Rattle.label_file.specs.Output.{unitigs};
 use label_file::ListAnswer;
 use libc::STDERR_FILENO;
@@ -11,11 +12,9 @@ fn complain(what: &[u8]) {
     io::write_all(STDERR_FILENO, what);
 }
 
-fn print(text: &[u8], n: usize) {
-    if text.len() < n {
-        complain(b"unitigs: no room for the answer\n");
-        return;
-    }
+fn print(text: &[u8], n: usize)
+    requires { ⌜ n ≤ length (now text) ⌝ }
+{
     if !io::write_all(STDOUT_FILENO, &text[..n]) {
         complain(b"unitigs: standard output could not be written\n");
     }
@@ -24,7 +23,7 @@ fn print(text: &[u8], n: usize) {
 // What is to be printed for a file, in a text of zeros; the other buffers are filled with zeros here. The answer is its size.
 fn list(file: &[u8], text: &mut [u8]) -> usize
     requires { ⌜ now text ≡ replicate 8192 0 ⌝ }
-    ensures { λ r. ⌜ take r (now (text .exit)) ≡ unitigs (now (file .entry)) ⌝ }
+    ensures { λ r. ⌜ (take r (now (text .exit)) ≡ unitigs (now (file .entry))) × (r ≤ length (now (text .exit))) ⌝ }
 {
     let mut keys = [0u64; 2048];
     let mut counts = [0u32; 1024];

@@ -1,7 +1,7 @@
 -- The beginning, the label behind it and the last newline are one text. Assumes nothing.
 use mathlib.Core.Path.{refl, ap, _∙_}
 use native.Mathlib.Omega.{arith}
-use lib.ListN.{length, length-set, length-take, length-drop}
+use lib.ListN.{length, length-set}
 use Rattle.graph.specs.Fasta.{recordOf}
 use Rattle.dna.proofs.Overwriting.{length-over}
 use Rattle.fasta.proofs.Records.{length-record}
@@ -33,7 +33,7 @@ write-record-spec =
     (λ c. simp length-set (omega arith))
     (λ c. simp length-set (omega arith))
     (λ c. search needs)
-    (λ c κs. simp (length-take, length-drop, length-set) (omega arith))
+    (λ c κs. search needs)
     (λ c. search needs)
     slice-write-out-4
     (λ c. search needs)

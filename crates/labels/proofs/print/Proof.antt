@@ -1,4 +1,4 @@
--- The test gives what the slice asks. Assumes nothing.
+-- The slice is the first n bytes. Assumes nothing.
 use native.Mathlib.Omega.{arith}
 use lib.ListN.{length-take}
 use borrow.Author.Needs.{needs}
@@ -9,8 +9,6 @@ pub print-spec : {M : Type 1} → statement M
 print-spec =
     tie.close
     (tie.spec
-    (λ c κs. search needs)
-    (λ c. search needs)
     (λ c. simp length-take (omega arith))
     (λ c κs. search needs)
     (λ c. search needs)

@@ -1,29 +1,22 @@
 -- Neither neighbour is N, so both are counted. Assumes nothing.
-use mathlib.Core.Path.{ap, _∙_}
-use Rattle.dna.specs.Calls.{codeIn}
+use mathlib.Core.Path.{ap, ap₂, _∙_}
+use Prim.Native.Nat.{_/_, _%_}
 use Rattle.kmer.specs.Says.{numberIn}
-use Rattle.state.specs.Counted.{fourBits}
-use Rattle.adding.proofs.Neighbours.{straight-done, turned-done}
+use Rattle.state.specs.Counted.{fourBits, updateCall}
+use Rattle.state.proofs.Slots.{update-done}
 use borrow.Author.Needs.{needs}
 use Rattle.adding.proofs.counting.counted.Statement.{statement}
 use Rattle.adding.proofs.counting.counted.Tie as tie
 
 returns : tie.Need-returns
 returns c =
-    let s = c .before .before .before in
+    let bases = c .before .before in
+    let s = bases .before .before in
+    let note = s .args .note in
     c .word-of .ensures
     ∙ ap numberIn (c .before .update-edges .ensures
-    ∙ straight-done fourBits (s .args .word) (codeIn (s .args .before)) (codeIn (s .args .after)) (s .pre .0) (s .pre .1)
-    (c .before .before .if1 .taken))
-
-returns-2 : tie.Need-returns-2
-returns-2 c =
-    let s = c .before .before .before .before .before in
-    c .word-of2 .ensures
-    ∙ ap numberIn (c .before .update-edges2 .ensures
-    ∙ turned-done fourBits (s .args .word) (codeIn (s .args .before)) (codeIn (s .args .after)) (s .pre .0) (s .pre .1)
-    _ _ (c .before .before .complement2 .ensures)
-    (c .before .before .before .complement .ensures) (c .before .before .before .before .if1 .left))
+    ∙ ap₂ (updateCall fourBits (s .args .word)) (bases .before .base-of .ensures) (bases .base-of2 .ensures)
+    ∙ update-done fourBits (s .args .word) (note % 8) (note / 8 % 8) (s .pre .front-known) (s .pre .back-known))
 
 pub counted-spec : {M : Type 1} → statement M
 counted-spec =
@@ -31,9 +24,6 @@ counted-spec =
     (tie.spec
     (λ c κs. search needs)
     (λ c κs. search needs)
-    returns
     (λ c κs. search needs)
     (λ c κs. search needs)
-    (λ c κs. search needs)
-    (λ c κs. search needs)
-    returns-2)
+    returns)

@@ -1,10 +1,9 @@
--- Two texts of which neither stands before the other are one. Assumes nothing.
+-- Two texts that come alike are one. Assumes nothing.
 use mathlib.Core.Path.{sym, _∙_}
 use mathlib.Core.Bool.{false≢true}
 use native.Mathlib.Omega.{arith}
-use borrow.Author.Tests.{not-true}
-use Rattle.dna.proofs.Order.{before-same}
 use borrow.Author.Needs.{needs}
+use Rattle.sorting.proofs.Standing.{same-order}
 use Rattle.contraction.proofs.normal.are_same.Statement.{statement}
 use Rattle.contraction.proofs.normal.are_same.Tie as tie
 
@@ -21,8 +20,7 @@ cast-n : tie.Need-cast-n
 cast-n c = omega (arith, c .shared-slice-known7 .given (c .before .before .before .before .before .before .before .args .j))
 
 returns-2 : tie.Need-returns-2
-returns-2 c h =
-    before-same _ _ (sym (c .before .before .is-before .ensures) ∙ c .before .if1 .left) (sym (c .is-before2 .ensures) ∙ not-true _ h)
+returns-2 c h = same-order _ _ (sym (c .before .before .compare .ensures) ∙ c .enum-told2 .given .1)
 
 pub are-same-spec : {M : Type 1} → statement M
 are-same-spec =
@@ -41,6 +39,9 @@ are-same-spec =
     (λ c. search needs)
     cast-n
     (λ c κs. search needs)
+    (λ c. search needs)
+    (λ c. search needs)
+    (λ c. search needs)
     (λ c h. absurd (false≢true h))
-    (λ c κs. search needs)
-    returns-2)
+    returns-2
+    (λ c h. absurd (false≢true h)))

@@ -6,16 +6,16 @@ use Rattle.contraction.proofs.unitigs.write_list.Tie as tie
 
 normalize-unitigs-requires : tie.Need-normalize-unitigs-requires
 normalize-unitigs-requires c κs =
-    let w = c .before .before .before .before .before .before .before .before .before .before .before .before .before .before .before in
-    let s = w .before .before .before .before .before .before .before .before .before .before in
+    let w = c .before .before .before .before .before .before .before .before .before .before .before .before .before in
+    let s = w .before .before .before .before .before .before .before .before .before .before .before in
     written-normal (s .args .k) (s .args .keys .now) (s .args .marks .now) (s .pre .0) (w .write-labels .ensures) (s .pre .2)
 
 returns : tie.Need-returns
 returns c =
     let n = c .before .before .before .before .before .before in
     let settled = n .before .before .before .before .before .before in
-    let w = settled .before .before .before .before .before .before .before .before .before .before in
-    let s = w .before .before .before .before .before .before .before .before .before .before in
+    let w = settled .before .before .before .before .before .before .before .before in
+    let s = w .before .before .before .before .before .before .before .before .before .before .before in
     all-listed (s .args .k) (s .args .keys .now) (s .args .marks .now) (s .pre .0) (w .write-labels .ensures)
     (n .normalize-unitigs .ensures) (settled .settle .ensures)
 

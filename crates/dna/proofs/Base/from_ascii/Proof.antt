@@ -1,28 +1,50 @@
--- A code is at most 4, so that what is none of 0 to 3 is 4. Assumes nothing.
-use mathlib.Core.Path.{_≡_, _∙_}
-use Prim.Native.Nat.{ℕ, _≤_}
+-- What is no base is N; of a base the two bits are its code, which is below 4. Assumes nothing.
+use mathlib.Core.Path.{_≡_, sym, _∙_}
+use mathlib.Core.Bool.{Bool, false, not}
+use Prim.Native.Nat.{ℕ, _<_}
 use native.Mathlib.Omega.{arith}
 use borrow.Author.Needs.{needs}
-use Rattle.dna.proofs.Letters.{code-le}
+use borrow.Author.Tests.{not-true, not-false, ltb-true}
+use Rattle.dna.specs.Letters.{codeOf, isBase, validBits}
+use Rattle.dna.proofs.Letters.{no-base, valid-code}
 use Rattle.dna.proofs.Base.from_ascii.Statement.{statement}
 use Rattle.dna.proofs.Base.from_ascii.Tie as tie
 
-last : (c : ℕ) → c ≤ 4 → (c ≡ 0 → ⊥) → (c ≡ 1 → ⊥) → (c ≡ 2 → ⊥) → (c ≡ 3 → ⊥) → 4 ≡ c
-last c h n₀ n₁ n₂ n₃ = omega arith
+-- The bits of a byte that passed the test.
+code : (b : ℕ) {r : ℕ} {t : Bool} → b < 256 → r ≡ validBits b → t ≡ isBase b → not t ≡ false → r ≡ codeOf b
+code b h v e n = v ∙ valid-code b h (sym e ∙ not-false _ n)
+
+returns : tie.Need-returns
+returns c = sym (no-base (c .before .before .args .byte) (sym (c .before .is-dna-ascii .ensures) ∙ not-true _ (c .if1 .taken)))
+
+returns-2 : tie.Need-returns-2
+returns-2 c =
+    let k = c .before in
+    let test = k .before .before in
+    let e = code (test .before .args .byte) (search needs) (k .valid-ascii-base-bits .ensures) (test .is-dna-ascii .ensures) (k .before .if1 .left) in
+    search needs
+
+returns-3 : tie.Need-returns-3
+returns-3 c =
+    let k = c .before in
+    let test = k .before .before in
+    let e = code (test .before .args .byte) (search needs) (k .valid-ascii-base-bits .ensures) (test .is-dna-ascii .ensures) (k .before .if1 .left) in
+    search needs
+
+returns-4 : tie.Need-returns-4
+returns-4 c =
+    let k = c .before in
+    let test = k .before .before in
+    let e = code (test .before .args .byte) (search needs) (k .valid-ascii-base-bits .ensures) (test .is-dna-ascii .ensures) (k .before .if1 .left) in
+    search needs
 
 returns-5 : tie.Need-returns-5
 returns-5 c =
-    let k = c .before .ascii-code in
-    let r = c .match .rest in
-    last (k .result) (rw (k .ensures) (code-le (c .before .before .args .byte))) (r .0 .0 .0 .1) (r .0 .0 .1) (r .0 .1) (r .1) ∙ k .ensures
+    let k = c .before in
+    let test = k .before .before in
+    let b = test .before .args .byte in
+    let e = code b (search needs) (k .valid-ascii-base-bits .ensures) (test .is-dna-ascii .ensures) (k .before .if1 .left) in
+    omega (arith, ltb-true (codeOf b) 4 (sym (test .is-dna-ascii .ensures) ∙ not-false _ (k .before .if1 .left)))
 
 pub from-ascii-spec : {M : Type 1} → statement M
-from-ascii-spec =
-    tie.close
-    (tie.spec
-    (λ c κs. search needs)
-    (λ c. search needs)
-    (λ c. search needs)
-    (λ c. search needs)
-    (λ c. search needs)
-    returns-5)
+from-ascii-spec = tie.close (tie.spec (λ c κs. search needs) returns (λ c κs. search needs) returns-2 returns-3 returns-4 returns-5)

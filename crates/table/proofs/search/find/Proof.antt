@@ -1,58 +1,14 @@
--- The place that is left holds x, or another key, or is the end. Assumes nothing.
-use mathlib.Core.Path.{sym, _∙_}
-use native.Mathlib.Omega.{arith}
+-- From the first place to the last it is the search among all. Assumes nothing.
 use borrow.Author.Needs.{needs}
-use borrow.Author.Tests.{not-true, not-false, ltb-true}
 use Rattle.kmer.specs.Says.{valueOf}
-use Rattle.table.proofs.Searching.{find-at, find-gap, find-end}
+use Rattle.table.proofs.Searching.{find-all}
 use Rattle.table.proofs.search.find.Statement.{statement}
 use Rattle.table.proofs.search.find.Tie as tie
 
 returns : tie.Need-returns
 returns c =
-    let at = c .before .before .before .before .before .before in
-    let a = at .before .before .before .args in
-    let y = c .before .before .before .before .key-at in
-    find-at (a .n) (a .keys .now) (valueOf (a .x)) (at .before .least .result) (at .place-of .result) (at .before .least .ensures) (at .place-of .ensures)
-    (search needs) (valueOf (y .result)) (y .ensures)
-    (sym (c .before .before .before .is-less .ensures) ∙ not-true _ (c .before .before .if2 .taken))
-    (sym (c .before .is-less2 .ensures) ∙ not-true _ (c .if3 .taken))
-
-returns-2 : tie.Need-returns-2
-returns-2 c =
-    let at = c .before .before .before .before .before .before in
-    let a = at .before .before .before .args in
-    let y = c .before .before .before .before .key-at in
-    let h = ltb-true (valueOf (a .x)) (valueOf (y .result)) (sym (c .before .is-less2 .ensures) ∙ not-false _ (c .if3 .left)) in
-    find-gap (a .n) (a .keys .now) (valueOf (a .x)) (at .before .least .result) (at .place-of .result) (at .before .least .ensures) (at .place-of .ensures)
-    (search needs) (valueOf (y .result)) (y .ensures) (λ e. omega arith)
-
-returns-3 : tie.Need-returns-3
-returns-3 c =
-    let at = c .before .before .before .before in
-    let a = at .before .before .before .args in
-    let y = c .before .before .key-at in
-    let h = ltb-true (valueOf (y .result)) (valueOf (a .x)) (sym (c .before .is-less .ensures) ∙ not-false _ (c .if2 .left)) in
-    find-gap (a .n) (a .keys .now) (valueOf (a .x)) (at .before .least .result) (at .place-of .result) (at .before .least .ensures) (at .place-of .ensures)
-    (search needs) (valueOf (y .result)) (y .ensures) (λ e. omega arith)
-
-returns-4 : tie.Need-returns-4
-returns-4 c =
-    let at = c .before in
-    let a = at .before .before .before .args in
-    find-end (a .n) (a .keys .now) (valueOf (a .x)) (at .before .least .result) (at .place-of .result) (at .before .least .ensures) (at .place-of .ensures)
-    (c .if1 .left)
+    let a = c .before .before .args in
+    find-all (a .n) (a .keys .now) (valueOf (a .x)) (c .find-between .ensures)
 
 pub find-spec : {M : Type 1} → statement M
-find-spec =
-    tie.close
-    (tie.spec
-    (λ c κs. search needs)
-    (λ c κs. search needs)
-    (λ c κs. search needs)
-    (λ c κs. search needs)
-    (λ c κs. search needs)
-    returns
-    returns-2
-    returns-3
-    returns-4)
+find-spec = tie.close (tie.spec (λ c κs. search needs) returns)

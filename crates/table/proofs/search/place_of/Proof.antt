@@ -1,22 +1,24 @@
 -- What is left between the two places is all that is left of the search. Assumes nothing.
 use mathlib.Core.Path.{sym, _∙_}
-use Prim.Native.Nat.{_-_, _≤_}
+use Prim.Native.Nat.{ℕ, _-_, _≤_}
+use lib.ListN.{length}
 use borrow.Author.Needs.{needs}
 use Rattle.kmer.specs.Says.{valueOf}
 use Rattle.graph.specs.Table.{keysOf}
-use Rattle.table.proofs.Halving.{Left, middle, left-all, left-above, left-below}
-use Rattle.table.proofs.Searching.{smaller, smaller-is, place-is}
+use Rattle.table.proofs.Halving.{middle, left-all, left-above, left-below}
+use Rattle.table.proofs.Searching.{Leaves, smaller-is, place-is}
 use Rattle.table.proofs.search.place_of.Statement.{statement}
 use Rattle.table.proofs.search.place_of.Tie as tie
 
 abbrev Inv-loop : tie.InvT-loop
-Inv-loop m keys x lo₀ hi₀ lo hi = (hi ≤ m) × Left (smaller (keysOf m keys) (valueOf x)) m lo hi
+Inv-loop lo hi keys x first₀ end₀ first end =
+    (end ≤ hi) × ((n : ℕ) → hi ≤ length (keysOf n keys) → Leaves n keys (valueOf x) lo hi first end)
 
 abbrev μ-loop : tie.MeasureT-loop
-μ-loop m keys x lo₀ hi₀ lo hi = hi - lo
+μ-loop lo hi keys x first₀ end₀ first end = end - first
 
 loop-holds : tie.Need-loop-holds Inv-loop μ-loop
-loop-holds c = (search needs, left-all _ _)
+loop-holds c = (search needs, λ n w. left-all _ _ _ _ w)
 
 loop-again : tie.Need-loop-again Inv-loop μ-loop
 loop-again c =
@@ -24,8 +26,8 @@ loop-again c =
     let a = c .before .before .before .before .before .before .args in
     let y = c .before .before .key-at in (
       search needs,
-      left-above _ (l .inv .1) (search needs)
-          (smaller-is (a .m) (a .keys .now) (valueOf (a .x)) (search needs) (middle (l .lo) (l .hi)) (valueOf (y .result)) _ (search needs) (y .ensures)
+      λ n w. left-above _ (l .inv .1 n w) (search needs)
+          (smaller-is n (a .keys .now) (valueOf (a .x)) (a .lo) (a .hi) w (middle (l .first) (l .end)) (valueOf (y .result)) _ (search needs) (y .ensures)
           (sym (c .if1 .taken) ∙ c .before .is-less .ensures)),
     )
 
@@ -35,15 +37,15 @@ loop-again-2 c =
     let a = c .before .before .before .before .before .before .args in
     let y = c .before .before .key-at in (
       search needs,
-      left-below _ (l .inv .1) (search needs)
-          (smaller-is (a .m) (a .keys .now) (valueOf (a .x)) (search needs) (middle (l .lo) (l .hi)) (valueOf (y .result)) _ (search needs) (y .ensures)
+      λ n w. left-below _ (l .inv .1 n w) (search needs)
+          (smaller-is n (a .keys .now) (valueOf (a .x)) (a .lo) (a .hi) w (middle (l .first) (l .end)) (valueOf (y .result)) _ (search needs) (y .ensures)
           (sym (c .if1 .left) ∙ c .before .is-less .ensures)),
     )
 
 returns : tie.Need-returns Inv-loop μ-loop
 returns c =
     let a = c .before .before .before .args in
-    place-is (a .m) (a .keys .now) (valueOf (a .x)) (search needs) (c .before .loop .inv .1) (search needs)
+    λ n w. place-is n (a .keys .now) (valueOf (a .x)) (a .lo) (a .hi) (c .before .loop .inv .1 n w) (search needs)
 
 pub place-of-spec : {M : Type 1} → statement M
 place-of-spec =

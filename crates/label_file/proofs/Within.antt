@@ -1,0 +1,61 @@
+-- The size that is to be printed lies within the text. Assumes nothing.
+use mathlib.Core.Path.{_≡_}
+use mathlib.Core.Bool.{cond}
+use mathlib.Core.List.{List}
+use Prim.Native.Nat.{ℕ, _≤_}
+use lib.ListN.{length}
+use Rattle.lemmas.proofs.Tests.{choose}
+use Rattle.dna.specs.Answer.{Answer, gives, refuses, Filled, fill}
+use Rattle.dna.proofs.Inside.{Inside, refused-inside, fill-inside}
+use Rattle.kmer.specs.Kmer.{okK}
+use Rattle.graph.specs.Contraction.{Contracted}
+use Rattle.graph.specs.Fasta.{within, records, fasta}
+use Rattle.label_file.specs.LabelFile.{LabelFile, damaged, holds, fileOf}
+use Rattle.label_file.specs.Output.{Buffers, Left, withTable, withList, refusal, refused, printed, listed, takeFrom, listAll, output}
+
+-- What holds of each arm holds of the chosen one.
+either : {A B : Type 0} (P : B → Type 0) (a : Answer A) {f : A → B} {g : ℕ → List ℕ → B} → ((x : A) → P (f x)) → ((r : ℕ) (vs : List ℕ) → P (g r vs))
+    → P (elim a [ gives x ↦ f x | refuses r vs ↦ g r vs ])
+either P (gives x) p q = p x
+either P (refuses r vs) p q = q r vs
+
+abbrev Within : Left → Type 0
+Within l = (n : ℕ) → l .answer ≡ gives n → n ≤ length (l .buffers .text)
+
+fasta-inside : (labels starts lengths : List ℕ) (count : ℕ) (text : List ℕ) → Inside (fasta labels starts lengths count text)
+unfolding fasta
+fasta-inside labels starts lengths count text =
+    choose Inside (within labels count starts lengths) (λ _. fill-inside 11 (records labels count starts lengths) text)
+    (λ _. refused-inside 12 _ text)
+
+printed-inside : (p : ℕ) (text : List ℕ) (f : Filled) → Inside f → Inside (printed p text f)
+unfolding printed
+printed-inside p text f i = either Inside (f .answer) {f = λ n. f} (λ n. i) (λ r vs. fill-inside 11 (refusal r p) text)
+
+refused-within : (r p : ℕ) (b : Buffers) → Within (refused r p b)
+unfolding refused
+refused-within r p b = fill-inside 11 (refusal r p) (b .text)
+
+listed-within : (p : ℕ) (b : Buffers) (c : Contracted) → Within (listed p b c)
+unfolding listed
+listed-within p b c =
+    either Within (c .answer)
+    (λ t. printed-inside p (b .text) _ (fasta-inside (c .labels) (c .starts) (c .lengths) (t .labels) (b .text)))
+    (λ r vs. refused-within r p (withList b c))
+
+list-all-within : (K cutoff : ℕ) (labels : List (List ℕ)) (b : Buffers) → Within (listAll K cutoff labels b)
+unfolding listAll
+list-all-within K cutoff labels b =
+    let t = takeFrom K 1 labels 0 (b .keys) (b .counts) in
+    either Within (t .answer) (λ n. listed-within (t .next) _ _) (λ r vs. refused-within r (t .next) _)
+
+of-file : (b : Buffers) (f : LabelFile) → Within (elim f [
+  | damaged i ↦ refused 13 i b
+  | holds K cutoff labels ↦ cond (okK K) (listAll K cutoff labels b) (refused 1 0 b)
+])
+of-file b (damaged i) = refused-within 13 i b
+of-file b (holds K cutoff labels) = choose Within (okK K) (λ _. list-all-within K cutoff labels b) (λ _. refused-within 1 0 b)
+
+pub output-within : (b : Buffers) (file : List ℕ) (n : ℕ) → output b file .answer ≡ gives n → n ≤ length (output b file .buffers .text)
+unfolding output
+output-within b file = of-file b (fileOf file)

@@ -1,0 +1,5 @@
+pub mod Digested
+pub mod Digesting
+pub mod Entering
+pub mod Marking
+pub mod Skipping

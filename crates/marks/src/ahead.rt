@@ -1,0 +1,85 @@
+// What a walk reads off the marks: an edge to leave by, the vertex ahead, whether a vertex is an anchor.
+ghost use mathlib.Core.Path.{_≡_};
+ghost use mathlib.Core.Bool.{not, _&&_, _||_};
+ghost use mathlib.Core.List.{List};
+ghost use Prim.Native.Nat.{ℕ};
+ghost use lib.Dec.{eqb};
+ghost use Rattle.state.specs.Counted.{sameSide};
+ghost use Rattle.graph.specs.Walks.{enter as entered, isolated, visited};
+ghost use Rattle.marks.specs.Marks.{endIn, ends, visits};
+use graph::Step;
+use graph::StopReason;
+use state::Side;
+
+// The edge on a side, as a mark holds it.
+pub fn edge_in(mark: u8, side: Side) -> u8
+    ensures { λ r. ⌜ r ≡ endIn mark side ⌝ }
+{
+    match side {
+        Side::Front => mark % 8,
+        Side::Back => mark / 8 % 8,
+    }
+}
+
+fn is_same(s: Side, t: Side) -> bool
+    ensures { λ r. ⌜ r ≡ sameSide s t ⌝ }
+{
+    match s {
+        Side::Front => match t {
+            Side::Front => true,
+            Side::Back => false,
+        },
+        Side::Back => match t {
+            Side::Front => false,
+            Side::Back => true,
+        },
+    }
+}
+
+// Whether a visited vertex ahead closes the cycle: it is the anchor, come back to by the side opposite the start.
+fn closes(anchor: usize, start: Side, vertex: usize, side: Side) -> bool
+    ensures { λ r. ⌜ r ≡ eqb vertex anchor && not (sameSide side start) ⌝ }
+{
+    if vertex == anchor {
+        return !is_same(side, start);
+    }
+    false
+}
+
+// A vertex with this mark would be entered by a side, with a base: the walk stops if that side retains several edges, or if the
+// vertex is visited; else it goes on by the opposite side. A vertex past the marks has no edge and is not visited.
+pub fn enter(marks: &[u8], anchor: usize, start: Side, w: usize, side: Side, base: u8) -> Step
+    ensures { λ r. ⌜ ((K : ℕ) (ks : List ℕ) → r ≡ entered K ks (ends (now (marks .entry))) anchor start (visits (now (marks .entry))) w side base) ⌝ }
+{
+    if w < marks.len() {
+        let mark = marks[w];
+        if edge_in(mark, side) == 4 {
+            return Step::Stop(StopReason::BranchingAhead);
+        }
+        if mark / 64 == 1 {
+            return Step::Stop(StopReason::VisitedAhead(closes(anchor, start, w, side)));
+        }
+    }
+    Step::Next {
+        vertex: w,
+        side: side.inverse(),
+        base,
+    }
+}
+
+// A vertex that is no anchor: visited or isolated, or past the marks.
+pub fn is_skipped(marks: &[u8], a: usize) -> bool
+    ensures { λ r. ⌜ r ≡ (visited (visits (now (marks .entry))) a || isolated (ends (now (marks .entry))) a) ⌝ }
+{
+    if marks.len() <= a {
+        return true;
+    }
+    let mark = marks[a];
+    if mark / 64 == 1 {
+        return true;
+    }
+    if edge_in(mark, Side::Front) == 5 {
+        return edge_in(mark, Side::Back) == 5;
+    }
+    false
+}
