@@ -151,7 +151,7 @@ pub fn main() {
     for n in [1024, 16384, 65536] {
         for k in [15, 31, 33, 63] {
             for c in cases(k, n).iter().filter(|_| n <= most) {
-                let runs = if n < 10000 { 5 } else { 2 };
+                let runs = if n < 10000 { 9 } else { 5 };
                 let theirs = least(runs, || with_k!(k, rust(c)));
                 let short = c.labels[0].len() == k + 1;
                 let mine = least(if short && n > 10000 { 1 } else { runs }, || ours(c));

@@ -142,26 +142,40 @@ fn by_hand(k: usize, n: usize, first: u64, second: u64, label: &[u8]) {
     show(&keys, &counts);
 }
 
-// Document 01's examples.
-fn examples() {
-    three(3, b"ACCCC", b"", b"");
-    three(3, b"GGGGT", b"", b"");
-    often(3, b"ACGG", 16);
-    three(3, b"ACCN", b"", b"");
-    three(3, b"AN", b"", b"");
-    three(1, b"AT", b"", b"");
+// One label, and then two empty ones.
+fn one(k: usize, label: &[u8]) {
+    three(k, label, b"", b"");
 }
 
-fn others() {
+// Document 01's examples.
+fn examples() {
+    one(3, b"ACCCC");
+    one(3, b"GGGGT");
+    often(3, b"ACGG", 16);
+    one(3, b"ACCN");
+    one(3, b"AN");
+    one(1, b"AT");
+}
+
+fn no_ks() {
     three(0, b"ACGT", b"", b"N");
     three(64, b"ACGT", b"", b"N");
+}
+
+fn ones_and_twos() {
     three(1, b"ACGTTGCA", b"NA", b"acgu");
     three(2, b"CAT", b"ATG", b"AAAA");
     three(2, b"ATATAT", b"CGCG", b"GC");
+}
+
+fn threes_and_fours() {
     three(3, b"ATCATC", b"GATGAT", b"ATATATA");
     three(3, b"CAAAA", b"TTTTG", b"UuTtacGg");
     three(3, b"ACGTACGTAAGGCC", b"TTTAGATTACA", b"ACG");
     three(4, b"ACGTACGT", b"AACCGGTTR", b"CCCCC");
+}
+
+fn one_word() {
     three(
         31,
         b"ACGTTGCAACGTACCAGTTGACCATGACCATGAC",
@@ -174,6 +188,9 @@ fn others() {
         b"ACGTACGTACGTACGTACGTACGTACGTACGTACG",
         b"GTCATGGTCATGGTCAACTGGTACGTTGCAACGT",
     );
+}
+
+fn two_words() {
     three(
         33,
         b"ACGTTGCAACGTACCAGTTGACCATGACCATGACAG",
@@ -188,19 +205,28 @@ fn others() {
     );
 }
 
-fn tables() {
+fn little_room() {
     few(2, b"ACC", b"ACCG");
     few(3, b"AACTT", b"AAC");
     few(3, b"ACGG", b"TTT");
+}
+
+fn fit_tables() {
     by_hand(3, 0, 5, 3, b"ACG");
     by_hand(3, 1, 5, 3, b"ACG");
     by_hand(3, 2, 3, 5, b"AAT");
     by_hand(3, 2, 3, 5, b"ACC");
+}
+
+fn unfit_tables() {
     by_hand(3, 2, 5, 3, b"ACG");
     by_hand(3, 2, 5, 5, b"ACG");
     by_hand(3, 1, 63, 0, b"ACG");
     by_hand(3, 1, 64, 0, b"ACG");
     by_hand(3, 4, 3, 5, b"ACG");
+}
+
+fn other_tables() {
     by_hand(0, 2, 5, 3, b"ACG");
     by_hand(3, 2, 5, 3, b"");
     by_hand(3, 2, 3, 5, b"N");
@@ -215,7 +241,14 @@ fn long() {
 
 fn main() {
     examples();
-    others();
-    tables();
+    no_ks();
+    ones_and_twos();
+    threes_and_fours();
+    one_word();
+    two_words();
+    little_room();
+    fit_tables();
+    unfit_tables();
+    other_tables();
     long();
 }

@@ -30,6 +30,11 @@ ofTotals t = t .labels ∷ t .bases ∷ []
 abbrev pub ofSize : ℕ → List ℕ
 ofSize n = n ∷ []
 
+-- An answer told: its number, and its figures in a slice.
+pub record Tells {A : Type 0} (f : A → List ℕ) (a : Answer A) (r : ℕ) (figures₀ figures′ : List ℕ) : Type 0 where
+  pub number : r ≡ numberOf a
+  pub figures-after : figures′ ≡ noted (figures f a) figures₀
+
 -- The calls: the number, the figures and the slices at exit.
 pub record AddsLabel (r : ℕ) (keys counts figures₀ figures′ : List ℕ) (a : Added) : Type 0 where
   pub number : r ≡ numberOf (a .answer)

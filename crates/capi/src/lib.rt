@@ -7,7 +7,9 @@ ghost use Rattle.graph.specs.Sightings.{sameCanonical};
 ghost use Rattle.graph.specs.Adding.{addLabel};
 ghost use Rattle.graph.specs.Contraction.{contract};
 ghost use Rattle.graph.specs.Fasta.{fasta};
-ghost use Rattle.capi.specs.Says.{noted, AddsLabel, ContractsTable, WritesFasta};
+ghost use Rattle.adding.specs.Says.{addAnswer};
+ghost use Rattle.contraction.specs.Says.{contractAnswer};
+ghost use Rattle.capi.specs.Says.{noted, ofEdges, ofTotals, Tells, AddsLabel, ContractsTable, WritesFasta};
 use adding::AddAnswer;
 use contraction::ContractAnswer;
 use fasta::FastaAnswer;
@@ -31,19 +33,11 @@ fn note_two(a: u64, b: u64, figures: &mut [u64])
     }
 }
 
-// `add_label`: figures are the edges and the number stored afterwards.
-#[no_mangle]
-pub extern "C" fn lash_add_label(
-    k: usize,
-    n: usize,
-    keys: &mut [u64],
-    counts: &mut [u32],
-    label: &[u8],
-    figures: &mut [u64],
-) -> u32
-    ensures { λ r. ⌜ AddsLabel r (now (keys .exit)) (now (counts .exit)) (now (figures .entry)) (now (figures .exit)) (addLabel fourBits sameCanonical k n (now (keys .entry)) (now (counts .entry)) (now (label .entry))) ⌝ }
+// The number and the figures of an addition.
+fn tell_added(answer: AddAnswer, figures: &mut [u64]) -> u32
+    ensures { λ r. ⌜ Tells ofEdges (addAnswer answer) r (now (figures .entry)) (now (figures .exit)) ⌝ }
 {
-    match adding::add_label(k, n, keys, counts, label) {
+    match answer {
         AddAnswer::Added { edges, stored } => {
             note_two(edges as u64, stored as u64, figures);
             0
@@ -65,6 +59,41 @@ pub extern "C" fn lash_add_label(
     }
 }
 
+// The number and the figures of a contraction.
+fn tell_contracted(answer: ContractAnswer, figures: &mut [u64]) -> u32
+    ensures { λ r. ⌜ Tells ofTotals (contractAnswer answer) r (now (figures .entry)) (now (figures .exit)) ⌝ }
+{
+    match answer {
+        ContractAnswer::Contracted { labels, bases } => {
+            note_two(labels as u64, bases as u64, figures);
+            0
+        }
+        ContractAnswer::UnsupportedK(k) => {
+            note(k as u64, figures);
+            1
+        }
+        ContractAnswer::Unfit => 5,
+        ContractAnswer::FewMarks => 7,
+        ContractAnswer::MissingVertex => 8,
+        ContractAnswer::NoRoom => 9,
+    }
+}
+
+// `add_label`: figures are the edges and the number stored afterwards.
+#[no_mangle]
+pub extern "C" fn lash_add_label(
+    k: usize,
+    n: usize,
+    keys: &mut [u64],
+    counts: &mut [u32],
+    label: &[u8],
+    figures: &mut [u64],
+) -> u32
+    ensures { λ r. ⌜ AddsLabel r (now (keys .exit)) (now (counts .exit)) (now (figures .entry)) (now (figures .exit)) (addLabel fourBits sameCanonical k n (now (keys .entry)) (now (counts .entry)) (now (label .entry))) ⌝ }
+{
+    tell_added(adding::add_label(k, n, keys, counts, label), figures)
+}
+
 // `contract`: figures are the number of labels and their bases.
 #[no_mangle]
 pub extern "C" fn lash_contract(
@@ -81,20 +110,10 @@ pub extern "C" fn lash_contract(
 ) -> u32
     ensures { λ r. ⌜ ContractsTable r (now (labels .exit)) (now (starts .exit)) (now (lengths .exit)) (now (marks .exit)) (now (figures .entry)) (now (figures .exit)) (contract fourBits k cutoff n (now (keys .entry)) (now (counts .entry)) (now (labels .entry)) (now (starts .entry)) (now (lengths .entry)) (now (marks .entry))) ⌝ }
 {
-    match contraction::contract(k, cutoff, n, keys, counts, labels, starts, lengths, marks) {
-        ContractAnswer::Contracted { labels, bases } => {
-            note_two(labels as u64, bases as u64, figures);
-            0
-        }
-        ContractAnswer::UnsupportedK(k) => {
-            note(k as u64, figures);
-            1
-        }
-        ContractAnswer::Unfit => 5,
-        ContractAnswer::FewMarks => 7,
-        ContractAnswer::MissingVertex => 8,
-        ContractAnswer::NoRoom => 9,
-    }
+    tell_contracted(
+        contraction::contract(k, cutoff, n, keys, counts, labels, starts, lengths, marks),
+        figures,
+    )
 }
 
 // `write_fasta`: the figure is the number of bytes written.

@@ -3,6 +3,7 @@ pub mod Remaining
 pub mod Digits
 pub mod Lines
 pub mod Unread
+pub mod Outcomes
 pub mod TakingLabels
 pub mod Listing
 pub mod Whole

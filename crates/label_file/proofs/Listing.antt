@@ -7,7 +7,7 @@ use lib.Dec.{ltb}
 use lib.ListN.{length}
 use Rattle.dna.specs.Answer.{gives, refuses, Filled, fill}
 use Rattle.state.specs.Counted.{fourBits}
-use Rattle.graph.specs.Contraction.{contract, Contracted}
+use Rattle.graph.specs.Contraction.{contract, Contracted, Totals}
 use Rattle.graph.specs.Fasta.{records, within, fasta}
 use Rattle.lemmas.proofs.Tests.{choose}
 use Rattle.fasta.specs.declared.FastaAnswer.{FastaAnswer}
@@ -15,11 +15,12 @@ use Rattle.fasta.specs.declared.FastaAnswer.the-variants.{Written}
 use Rattle.fasta.specs.Says.{fastaAnswer, Lists as ListsFasta}
 use Rattle.contraction.specs.Says.{contractAnswer, Contracts}
 use Rattle.label_file.specs.Output.{Buffers, lent, withText, withList, refusal, refused, printed, listed}
-use Rattle.label_file.specs.Says.{Fills, Lists}
+use Rattle.label_file.specs.Says.{Fills, Lists, outcomeOf, besides}
 use Rattle.label_file.specs.declared.ListAnswer.{ListAnswer}
 use Rattle.label_file.specs.declared.ListAnswer.the-variants.{Printed}
 use Rattle.contraction.specs.declared.ContractAnswer.{ContractAnswer}
-use Rattle.contraction.specs.declared.ContractAnswer.the-variants as contraction
+use Rattle.label_file.specs.declared.Outcome.the-variants.{Given, Refused}
+use Rattle.label_file.proofs.Outcomes.{outcome-gives, outcome-refuses}
 
 ungiven : {P : Type 0} (n r : ℕ) (vs : List ℕ) → gives n ≡ refuses r vs → P
 ungiven n r vs h = let z : _≡_ {A = ℕ} 0 1 = cc in absurd (omega arith)
@@ -74,23 +75,25 @@ module _ (k cutoff n : ℕ) (b : Buffers) {x : ContractAnswer} {labels starts le
   after-lists after = rw (t .labels-after, t .starts-after, t .lengths-after, t .marks-after)
 
   -- The list of a table that was contracted.
-  pub listed-list : {y : ListAnswer} {after : List ℕ} (count bases : ℕ) → x ≡ contraction.Contracted count bases
+  pub listed-list : {y : ListAnswer} {after : List ℕ} (count : ℕ) → Given count ≡ outcomeOf (λ (s : Totals). s .labels) (contractAnswer x)
       → Fills y after (printed p (b .text) (fasta labels starts lengths count (b .text)))
       → Lists y (lent (b .keys) (b .counts) labels starts lengths marks after) (listed p b (contracted k cutoff n b))
   unfolding listed
-  listed-list {y} {after} count bases e f =
+  listed-list {y} {after} count e f =
       let c = contracted k cutoff n b in
-      let h : c .answer ≡ gives (record { labels = count; bases = bases }) = sym (t .answer) ∙ ap contractAnswer e in
-      let f′ : Fills y after (printed p (b .text) (fasta (c .labels) (c .starts) (c .lengths) count (b .text))) =
-      rw (t .labels-after, t .starts-after, t .lengths-after) at f in
+      let g = outcome-gives _ (contractAnswer x) count e in
+      let h : c .answer ≡ gives (g .value) = sym (t .answer) ∙ g .is in
+      let f′ : Fills y after (printed p (b .text) (fasta (c .labels) (c .starts) (c .lengths) (g .value .labels) (b .text))) =
+      rw (t .labels-after, t .starts-after, t .lengths-after, g .number) at f in
       rw (h, listed, ← after-lists after)
-      (lists-text (withList b c) (printed p (b .text) (fasta (c .labels) (c .starts) (c .lengths) count (b .text))) f′)
+      (lists-text (withList b c) (printed p (b .text) (fasta (c .labels) (c .starts) (c .lengths) (g .value .labels) (b .text))) f′)
 
   -- One that was not.
-  pub listed-refusal : {y : ListAnswer} {after : List ℕ} (r : ℕ) (vs : List ℕ) → contractAnswer x ≡ refuses r vs
+  pub listed-refusal : {y : ListAnswer} {after : List ℕ} (r : ℕ) → outcomeOf (λ (s : Totals). s .labels) (contractAnswer x) ≡ Refused r
       → Fills y after (fill 11 (refusal r p) (b .text))
       → Lists y (lent (b .keys) (b .counts) labels starts lengths marks after) (listed p b (contracted k cutoff n b))
   unfolding listed
-  listed-refusal {after = after} r vs e f =
-      let h : contracted k cutoff n b .answer ≡ refuses r vs = sym (t .answer) ∙ e in
+  listed-refusal {after = after} r e f =
+      let h : contracted k cutoff n b .answer ≡ refuses r (besides (contractAnswer x)) =
+      sym (t .answer) ∙ outcome-refuses _ (contractAnswer x) r e in
       rw (h, listed, ← after-lists after) (lists-refused (withList b (contracted k cutoff n b)) r p f)

@@ -8,31 +8,40 @@ use lib.ListN.{length, take, drop}
 use Rattle.dna.specs.Answer.{gives, refuses}
 use Rattle.state.specs.Counted.{fourBits}
 use Rattle.graph.specs.Sightings.{sameCanonical}
-use Rattle.graph.specs.Adding.{addLabel}
+use Rattle.graph.specs.Adding.{addLabel, Edges}
 use Rattle.adding.specs.declared.AddAnswer.{AddAnswer}
-use Rattle.adding.specs.declared.AddAnswer.the-variants as add
 use Rattle.adding.specs.Says.{addAnswer, Adds}
 use Rattle.label_file.specs.LabelFile.{two, fileOf, labelsOf}
 use Rattle.label_file.specs.Output.{takeFrom}
-use Rattle.label_file.specs.Says.{Sound, Takes}
+use Rattle.label_file.specs.Says.{Sound, outcomeOf, besides, Takes}
+use Rattle.label_file.specs.declared.Outcome.{Outcome}
+use Rattle.label_file.specs.declared.Outcome.the-variants as outcome
 use Rattle.label_file.specs.declared.Taking.the-variants.{Stored, Refused}
+use Rattle.label_file.proofs.Outcomes.{outcome-gives, outcome-refuses}
 use Rattle.label_file.proofs.Unread.{Unread, Next, unread-all, unread-none, unread-next}
+
+-- The vertices stored after a label, or its refusal.
+abbrev storedIn : AddAnswer → Outcome
+storedIn r = outcomeOf (λ (e : Edges). e .stored) (addAnswer r)
 
 module _ (K p : ℕ) (label : List ℕ) (labels : List (List ℕ)) (n : ℕ) (keys counts : List ℕ) {r : AddAnswer} {keys′ counts′ : List ℕ}
     (a : Adds r keys′ counts′ (addLabel fourBits sameCanonical K n keys counts label)) where
-  take-more : (edges stored : ℕ) → r ≡ add.Added edges stored
+  take-more : (stored : ℕ) → outcome.Given stored ≡ storedIn r
       → takeFrom K p (label ∷ labels) n keys counts ≡ takeFrom K (p + 1) labels stored keys′ counts′
   unfolding takeFrom
-  take-more edges stored e =
-      let h : addLabel fourBits sameCanonical K n keys counts label .answer ≡ gives (record { edges = edges; stored = stored }) =
-      sym (a .answer) ∙ ap addAnswer e in
-      rw (h, takeFrom, a .keys-after, a .counts-after, add-one p)
+  take-more stored e =
+      let g = outcome-gives _ (addAnswer r) stored e in
+      let h : addLabel fourBits sameCanonical K n keys counts label .answer ≡ gives (g .value) = sym (a .answer) ∙ g .is in
+      let more : takeFrom K p (label ∷ labels) n keys counts ≡ takeFrom K (p + 1) labels (g .value .stored) keys′ counts′ =
+      rw (h, takeFrom, a .keys-after, a .counts-after, add-one p) in
+      more ∙ ap (λ (m : ℕ). takeFrom K (p + 1) labels m keys′ counts′) (sym (g .number))
 
-  take-ends : (number : ℕ) (vs : List ℕ) → addAnswer r ≡ refuses number vs
+  take-ends : (number : ℕ) → storedIn r ≡ outcome.Refused number
       → Takes (Refused number p) keys′ counts′ (takeFrom K p (label ∷ labels) n keys counts)
   unfolding takeFrom
-  take-ends number vs e =
-      let h : addLabel fourBits sameCanonical K n keys counts label .answer ≡ refuses number vs = sym (a .answer) ∙ e in
+  take-ends number e =
+      let h : addLabel fourBits sameCanonical K n keys counts label .answer ≡ refuses number (besides (addAnswer r)) =
+      sym (a .answer) ∙ outcome-refuses _ (addAnswer r) number e in
       rw (h, takeFrom) (record { says = (refl, refl); keys-after = a .keys-after; counts-after = a .counts-after })
 
 -- The records before number i are read, and their labels added to none; n vertices are stored.
@@ -74,17 +83,17 @@ module _ {file : List ℕ} {k : ℕ} {keys₀ counts₀ : List ℕ} {i at n : �
     module _ {r : AddAnswer} {keys′ counts′ : List ℕ}
         (a : Adds r keys′ counts′ (addLabel fourBits sameCanonical k n keys counts lentLabel)) where
       -- It is added.
-      pub taken-next : (edges stored : ℕ) → r ≡ add.Added edges stored → length keys′ ≡ length keys → length counts′ ≡ length counts
+      pub taken-next : (stored : ℕ) → outcome.Given stored ≡ storedIn r → length keys′ ≡ length keys → length counts′ ≡ length counts
           → SomeTaken file k keys₀ counts₀ (i + 1) (at + 4 + size) stored keys′ counts′
-      taken-next edges stored e lk lc = record {
+      taken-next stored e lk lc = record {
         rest = next .behind;
         unread = next .unread;
-        all = whole ∙ take-more k i lentLabel (next .behind) n keys counts a edges stored e;
+        all = whole ∙ take-more k i lentLabel (next .behind) n keys counts a stored e;
         long-keys = lk ∙ t .long-keys;
         long-counts = lc ∙ t .long-counts;
       }
 
       -- It is refused.
-      pub taken-ends : (number : ℕ) (vs : List ℕ) → addAnswer r ≡ refuses number vs
+      pub taken-ends : (number : ℕ) → storedIn r ≡ outcome.Refused number
           → Takes (Refused number i) keys′ counts′ (takeFrom k 1 (labelsOf (fileOf file)) 0 keys₀ counts₀)
-      taken-ends number vs e = rw whole (take-ends k i lentLabel (next .behind) n keys counts a number vs e)
+      taken-ends number e = rw whole (take-ends k i lentLabel (next .behind) n keys counts a number e)

@@ -10,6 +10,8 @@ use Rattle.label_file.specs.declared.ListAnswer.{ListAnswer}
 use Rattle.label_file.specs.declared.ListAnswer.the-variants as list
 use Rattle.label_file.specs.declared.Checked.{Checked}
 use Rattle.label_file.specs.declared.Checked.the-variants as checked
+use Rattle.label_file.specs.declared.Outcome.{Outcome}
+use Rattle.label_file.specs.declared.Outcome.the-variants as outcome
 use Rattle.label_file.specs.declared.Taking.{Taking}
 use Rattle.label_file.specs.declared.Taking.the-variants as taking
 
@@ -35,6 +37,11 @@ Sound file = fileOf file ≡ holds (kIn file) (cutoffIn file) (labelsOf (fileOf 
 abbrev pub formSays : Checked → List ℕ → Type 0
 formSays (checked.Damaged i) file = fileOf file ≡ damaged i
 formSays checked.Sound file = Sound file
+
+-- A number of what is given, or the refusal's.
+abbrev pub outcomeOf : {A : Type 0} → (A → ℕ) → Answer A → Outcome
+outcomeOf f (gives a) = outcome.Given (f a)
+outcomeOf f (refuses r vs) = outcome.Refused r
 
 -- The values beside a refusal.
 abbrev pub besides : {A : Type 0} → Answer A → List ℕ

@@ -22,3 +22,9 @@ enum Taking {
     Stored { vertices: usize, records: usize },
     Refused { number: usize, record: usize },
 }
+
+// The number that is needed of what a call gave, or its refusal's.
+enum Outcome {
+    Given(usize),
+    Refused(usize),
+}

@@ -5,19 +5,51 @@ ghost use Prim.Native.Nat.{_≤_};
 ghost use lib.ListN.{length};
 ghost use Rattle.kmer.specs.Kmer.{okK};
 ghost use Rattle.state.specs.Counted.{fourBits};
-ghost use Rattle.graph.specs.Contraction.{contract};
+ghost use Rattle.graph.specs.Adding.{Edges};
+ghost use Rattle.graph.specs.Contraction.{contract, Totals};
 ghost use Rattle.graph.specs.Fasta.{fasta};
+ghost use Rattle.adding.specs.Says.{addAnswer};
+ghost use Rattle.contraction.specs.Says.{contractAnswer};
 ghost use Rattle.label_file.specs.LabelFile.{kIn, cutoffIn, fileOf, labelsOf};
 ghost use Rattle.label_file.specs.Output.{lent, printed, listed, takeFrom, listAll, output};
-ghost use Rattle.label_file.specs.Says.{Fills, Lists, Sound, Takes};
+ghost use Rattle.label_file.specs.Says.{Fills, Lists, Sound, outcomeOf, Takes};
 use super::Checked;
 use super::ListAnswer;
+use super::Outcome;
 use super::Taking;
 use super::form;
 use super::line;
 use adding::AddAnswer;
 use contraction::ContractAnswer;
 use fasta::FastaAnswer;
+
+// The vertices stored after a label.
+fn stored_by(answer: AddAnswer) -> Outcome
+    ensures { λ r. ⌜ r ≡ outcomeOf (λ (e : Edges). e .stored) (addAnswer answer) ⌝ }
+{
+    match answer {
+        AddAnswer::Added { edges: _, stored } => Outcome::Given(stored),
+        AddAnswer::UnsupportedK(_) => Outcome::Refused(1),
+        AddAnswer::InvalidBase { .. } => Outcome::Refused(3),
+        AddAnswer::TooLong(_) => Outcome::Refused(4),
+        AddAnswer::Unfit => Outcome::Refused(5),
+        AddAnswer::Full => Outcome::Refused(6),
+    }
+}
+
+// The labels listed by a contraction.
+fn listed_by(answer: ContractAnswer) -> Outcome
+    ensures { λ r. ⌜ r ≡ outcomeOf (λ (t : Totals). t .labels) (contractAnswer answer) ⌝ }
+{
+    match answer {
+        ContractAnswer::Contracted { labels, bases: _ } => Outcome::Given(labels),
+        ContractAnswer::UnsupportedK(_) => Outcome::Refused(1),
+        ContractAnswer::Unfit => Outcome::Refused(5),
+        ContractAnswer::FewMarks => Outcome::Refused(7),
+        ContractAnswer::MissingVertex => Outcome::Refused(8),
+        ContractAnswer::NoRoom => Outcome::Refused(9),
+    }
+}
 
 // The labels added in order, until one is refused.
 fn take_labels(file: &[u8], k: usize, keys: &mut [u64], counts: &mut [u32]) -> Taking
@@ -30,17 +62,13 @@ fn take_labels(file: &[u8], k: usize, keys: &mut [u64], counts: &mut [u32]) -> T
     while at < file.len() {
         let start = at + 4;
         let end = start + form::two_bytes(file, at + 2);
-        match adding::add_label(k, vertices, keys, counts, &file[start..end]) {
-            AddAnswer::Added { edges: _, stored } => {
+        match stored_by(adding::add_label(k, vertices, keys, counts, &file[start..end])) {
+            Outcome::Given(stored) => {
                 vertices = stored;
                 record += 1;
                 at = end;
             }
-            AddAnswer::UnsupportedK(_) => return Taking::Refused { number: 1, record },
-            AddAnswer::InvalidBase { .. } => return Taking::Refused { number: 3, record },
-            AddAnswer::TooLong(_) => return Taking::Refused { number: 4, record },
-            AddAnswer::Unfit => return Taking::Refused { number: 5, record },
-            AddAnswer::Full => return Taking::Refused { number: 6, record },
+            Outcome::Refused(number) => return Taking::Refused { number, record },
         }
     }
     Taking::Stored {
@@ -83,16 +111,19 @@ fn list_table(
 ) -> ListAnswer
     ensures { λ r. ⌜ Lists r (lent (now (keys .entry)) (now (counts .entry)) (now (labels .exit)) (now (starts .exit)) (now (lengths .exit)) (now (marks .exit)) (now (text .exit))) (listed records (lent (now (keys .entry)) (now (counts .entry)) (now (labels .entry)) (now (starts .entry)) (now (lengths .entry)) (now (marks .entry)) (now (text .entry))) (contract fourBits k cutoff n (now (keys .entry)) (now (counts .entry)) (now (labels .entry)) (now (starts .entry)) (now (lengths .entry)) (now (marks .entry)))) ⌝ }
 {
-    match contraction::contract(k, cutoff, n, keys, counts, labels, starts, lengths, marks) {
-        ContractAnswer::Contracted {
-            labels: count,
-            bases: _,
-        } => print_list(labels, starts, lengths, count, records, text),
-        ContractAnswer::UnsupportedK(_) => line::refuse(1, records, text),
-        ContractAnswer::Unfit => line::refuse(5, records, text),
-        ContractAnswer::FewMarks => line::refuse(7, records, text),
-        ContractAnswer::MissingVertex => line::refuse(8, records, text),
-        ContractAnswer::NoRoom => line::refuse(9, records, text),
+    match listed_by(contraction::contract(
+        k,
+        cutoff,
+        n,
+        keys,
+        counts,
+        labels,
+        starts,
+        lengths,
+        marks,
+    )) {
+        Outcome::Given(count) => print_list(labels, starts, lengths, count, records, text),
+        Outcome::Refused(number) => line::refuse(number, records, text),
     }
 }
 

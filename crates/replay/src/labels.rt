@@ -18,6 +18,18 @@ fn nothing(found: u8) -> After {
     }
 }
 
+// After a label that was answered so.
+fn answered(answer: AddAnswer, found: u8) -> After {
+    match answer {
+        AddAnswer::Added { edges, stored } => After {
+            edges,
+            stored,
+            found,
+        },
+        _ => nothing(found | found::DIFFERS),
+    }
+}
+
 // A label read and added.
 fn add(fd: i32, k: usize, before: After, keys: &mut [u64], counts: &mut [u32]) -> After {
     let mut label = [0u8; 4096];
@@ -26,14 +38,10 @@ fn add(fd: i32, k: usize, before: After, keys: &mut [u64], counts: &mut [u32]) -
         return nothing(found::CUT);
     }
     read::fill(fd, length, &mut label);
-    match adding::add_label(k, before.stored, keys, counts, &label[..length]) {
-        AddAnswer::Added { edges, stored } => After {
-            edges,
-            stored,
-            found: before.found,
-        },
-        _ => nothing(before.found | found::DIFFERS),
-    }
+    answered(
+        adding::add_label(k, before.stored, keys, counts, &label[..length]),
+        before.found,
+    )
 }
 
 // A label, and what was answered.
