@@ -32,7 +32,7 @@ spelt-length K x w =
     omega (arith, length-append (letters K x) (map letterOf (w .bases)), length-letters K x, length-map (w .bases) letterOf)
 
 module _ (K : ℕ) (ks : List ℕ) (es : List Ends) (x : ℕ) (back front : Walk) where
-  pub label-length : length (labelOf K ks es x back front) ≡ cond (closed (back .last)) K (K + length (front .bases)) + length (back .bases)
+  label-length : length (labelOf K ks es x back front) ≡ cond (closed (back .last)) K (K + length (front .bases)) + length (back .bases)
   label-length =
       let turned = reverseComplement (spelt K (rc K x) front) in
       let text = cond (closed (back .last)) (spelt K x back) (turned ++ map letterOf (back .bases)) in

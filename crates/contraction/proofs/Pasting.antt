@@ -16,7 +16,7 @@ use Rattle.kmer.proofs.Spelling.{length-letters}
 use Rattle.kmer.proofs.Given.{letters-given}
 
 -- A part of n cells that came back as a text of n cells.
-pub put-back : (buffer text : List ℕ) (at n : ℕ) → at + n ≤ length buffer → length text ≡ n
+put-back : (buffer text : List ℕ) (at n : ℕ) → at + n ≤ length buffer → length text ≡ n
     → putMid at (at + n - at) buffer text ≡ paste buffer at text n
 put-back buffer text at n h e =
     let m : at + n - at ≡ n = omega arith in
@@ -34,7 +34,7 @@ put-changed f same buffer text at n h e =
     ap (putMid at (at + n - at) buffer) q ∙ put-back buffer (f (part buffer at n)) at n h l
 
 -- A part written over by a text of its length.
-pub put-over : (buffer given text : List ℕ) (at n : ℕ) → at + n ≤ length buffer → length text ≡ n
+put-over : (buffer given text : List ℕ) (at n : ℕ) → at + n ≤ length buffer → length text ≡ n
     → given ≡ over text (midOf at (at + n - at) buffer) → putMid at (at + n - at) buffer given ≡ paste buffer at text n
 put-over buffer given text at n h e g =
     let m : at + n - at ≡ n = omega arith in

@@ -68,7 +68,7 @@ module _ (K : ℕ) (keys ms after : List ℕ) (e : ends after ≡ ends ms) where
   pub run-same : (a : ℕ) → runIn K keys after a ≡ runIn K keys ms a
   run-same a = rw (ends-length ms after e, e)
 
-  pub trail-same : (a : ℕ) → trailIn K keys after a ≡ trailIn K keys ms a
+  trail-same : (a : ℕ) → trailIn K keys after a ≡ trailIn K keys ms a
   unfolding trailIn
   trail-same zero = refl
   trail-same (suc a) = ap₂ _++_ (trail-same a) (rw (ends-length ms after e, e))
