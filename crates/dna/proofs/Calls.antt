@@ -1,13 +1,13 @@
 -- The enums' definitions tell their cases apart, and what a call that writes one text has to show. Assumes nothing.
 use mathlib.Core.Path.{_≡_, refl, sym, ap, _∙_}
-use mathlib.Core.List.{List, []}
+use mathlib.Core.List.{List}
 use Prim.Native.Nat.{ℕ, zero, suc, _≤_, _<_}
 use native.Mathlib.Omega.{arith}
 use borrow.Author.Tests.{lt-ltb, le-ltb}
 use lib.ListN.{length}
 use Rattle.lemmas.proofs.Building.{Built, built-all}
 use Rattle.dna.specs.Text.{over}
-use Rattle.dna.specs.Answer.{Answer, gives, refuses, fill}
+use Rattle.dna.specs.Answer.{fill}
 use Rattle.dna.specs.Calls.{codeIn, writtenAnswer, Writes}
 use Rattle.dna.specs.declared.Base.{Base}
 use Rattle.dna.specs.declared.Base.the-variants.{A, C, G, T, N, E}

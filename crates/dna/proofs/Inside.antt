@@ -6,7 +6,7 @@ use native.Mathlib.Omega.{arith}
 use lib.Dec.{ltb}
 use lib.ListN.{length, drop, length-append}
 use Rattle.lemmas.proofs.Tests.{choose}
-use Rattle.dna.specs.Answer.{Answer, gives, refuses, Filled, fill}
+use Rattle.dna.specs.Answer.{gives, refuses, Filled, fill}
 
 abbrev pub Inside : Filled → Type 0
 Inside f = (n : ℕ) → f .answer ≡ gives n → n ≤ length (f .slice)

@@ -1,7 +1,6 @@
 -- The letters against the IUPAC nucleotide code. Assumes nothing.
 use mathlib.Core.Path.{_≡_, refl}
-use mathlib.Core.Bool.{Bool, true}
-use mathlib.Core.List.{List}
+use mathlib.Core.Bool.{true}
 use Prim.Native.Nat.{ℕ}
 use Rattle.dna.specs.Text.{bytes, among, openText}
 use Rattle.dna.specs.Letters.{codeOf, letterOf, complementLetter, openLetters}

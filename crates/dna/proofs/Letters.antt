@@ -1,11 +1,9 @@
 -- Laws of the letters. Assumes nothing.
 use mathlib.Core.Path.{_≡_, refl, _∙_}
-use mathlib.Core.Bool.{Bool, true, false, cond, _&&_}
-use mathlib.Core.List.{List, [], _∷_}
+use mathlib.Core.Bool.{true, false, cond, _&&_}
 use Prim.Native.Nat.{ℕ, zero, suc, _-_, _/_, _^_, _≤_, _<_}
-use native.Mathlib.Nat.{not-suc-le-zero}
 use native.Mathlib.Omega.{arith}
-use borrow.Author.Tests.{lt-ltb, le-ltb, ltb-true, ltb-false, eqb-true}
+use borrow.Author.Tests.{lt-ltb, ltb-true, ltb-false, eqb-true}
 use lib.Bits.{bitAnd, bitXor}
 use lib.Dec.{eqb, ltb}
 use Rattle.lemmas.proofs.Tests.{choose}
@@ -66,7 +64,7 @@ pub base-letters : (b : ℕ) → b < 256 → isBase b ≡ among b (bytes "ACGTUa
 unfolding openText openLetters
 base-letters b h = everywhere (λ x. isBase x) (λ x. among x (bytes "ACGTUacgtu")) 256 refl b h
 
--- The bases are letters, those at the set bits of a mask over the 32 letters of a case.
+-- The bases stand from 64 to 127, at the set bits of a mask over each 32 bytes.
 pub base-mask : (b : ℕ) → b < 256 → isBase b ≡ eqb (b / 64) 1 && eqb (bitAnd (3145866 / 2 ^ bitAnd b 31) 1) 1
 unfolding openText openLetters
 base-mask b h = everywhere (λ x. isBase x) (λ x. eqb (x / 64) 1 && eqb (bitAnd (3145866 / 2 ^ bitAnd x 31) 1) 1) 256 refl b h

@@ -1,5 +1,5 @@
 -- Rotations of a text place by place, and what the least start is. Assumes nothing.
-use mathlib.Core.Path.{_≡_, refl, sym, ap, _∙_}
+use mathlib.Core.Path.{_≡_, refl, _∙_}
 use mathlib.Core.Bool.{Bool, true, false, cond}
 use mathlib.Core.List.{List, _++_}
 use Prim.Native.Nat.{ℕ, zero, suc, _+_, _-_, _≤_, _<_, _%_}
@@ -63,9 +63,9 @@ least-to s (suc n) = go (least-to s n) (before (rotation s (suc n)) (rotation s 
         last q (yes u) h = rw u e
         last q (no u) h = ih .least q (omega arith)
 
+-- The least start is a place of the text, and 0 for lengths 0 and 1.
 pub least-within : (s : List ℕ) → 0 < length s → leastStart s < length s
 least-within s h = omega (arith, least-to s (length s - 1) .within)
 
--- It is 0 for lengths 0 and 1.
 pub short : (s : List ℕ) → length s ≤ 1 → 0 ≡ leastStart s
 short s h = omega (arith, least-to s (length s - 1) .within)

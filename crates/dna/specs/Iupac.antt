@@ -1,10 +1,9 @@
 -- The IUPAC nucleotide code: each letter stands for a set of bases. Assumes nothing.
 use Prim.Native.Nat.{ℕ, _-_}
 use Prim.Native.String.{String}
-use mathlib.Core.Bool.{Bool, true, false, cond, _&&_}
+use mathlib.Core.Bool.{Bool, true, cond, _&&_}
 use mathlib.Core.List.{List, [], _∷_, _++_}
-use lib.Dec.{leb, eqb}
-use lib.ListN.{getD}
+use lib.Dec.{leb}
 use Rattle.dna.specs.Text.{bytes, among}
 
 -- The sixteen letters, each with its bases in alphabetical order; U, uracil, stands where DNA has T.

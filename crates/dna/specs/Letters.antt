@@ -1,6 +1,6 @@
--- Letters: A, C, G, T are 0 to 3, N (no base) is 4, E (nothing there) is 5. Assumes nothing.
-use Prim.Native.Nat.{ℕ, zero, suc, _-_, _/_, _%_}
-use mathlib.Core.Bool.{Bool, true, false, cond}
+-- Letters: A, C, G, T are 0 to 3, N, a letter that is none of them, is 4, and E, "no base", is 5. Assumes nothing.
+use Prim.Native.Nat.{ℕ, suc, _-_, _/_, _%_}
+use mathlib.Core.Bool.{Bool, cond}
 use mathlib.Core.List.{List, [], _∷_, map, reverse}
 use lib.Bits.{bitXor}
 use lib.Dec.{ltb}

@@ -1,6 +1,5 @@
 // DNA letters, complements, reversal and rotation.
 ghost use mathlib.Core.Path.{_≡_};
-ghost use mathlib.Core.Bool.{not};
 ghost use lib.Dec.{ltb};
 ghost use Rattle.dna.specs.Letters.{codeOf, letterOf, complement, isBase, complementLetter, validBits};
 ghost use Rattle.dna.specs.Calls.{codeIn, bitsWhere};
@@ -108,7 +107,8 @@ fn ascii_code(byte: u8) -> u8
     ASCII_BASE_BITS[byte as usize]
 }
 
-// The 64 letters of either case stand from 64 on; of each 32, the set bits of the word are at the places of A, C, G, T and U.
+// The letters are among the 64 bytes from 64 on, each case at the same places of its 32: the word has a bit set at the places of
+// A, C, G, T and U.
 pub fn is_dna_ascii(byte: u8) -> bool
     ensures { λ r. ⌜ r ≡ isBase byte ⌝ }
 {

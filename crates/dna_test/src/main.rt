@@ -89,6 +89,7 @@ fn word(w: usize, len: usize) {
     label_line(first(&label, len));
 }
 
+// The first words, as labels of this length.
 fn words(len: usize, count: usize) {
     let mut w = 0;
     while w < count {

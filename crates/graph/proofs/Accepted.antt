@@ -109,7 +109,6 @@ module _ (κ : Kind) (rule : Rule) (K n : ℕ) (keys counts label : List ℕ) wh
         length (t .keys) ≤ capacity keys counts → Says e (changed κ rule K n keys counts label t)
     changed-says bases l h =
         let t = added κ rule K label (tableOf n keys counts) in
-        let r = changed κ rule K n keys counts label t in
         let reads : Readable K label = inr (no-bad-bases 0 label bases) in
         let v : Sound K t = added-sound κ rule K label (tableOf n keys counts) reads before in
         let a : e .edges ≡ length label - K = cc in

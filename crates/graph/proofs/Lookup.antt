@@ -9,7 +9,7 @@ use lib.ListN.{length, getD}
 use Rattle.kmer.specs.Kmer.{canon, isCanon}
 use Rattle.kmer.proofs.Strands.{canon-lt, canon-canon, canonical-of-canon}
 use Rattle.graph.specs.Table.{fitFrom, rank, stored}
-use Rattle.graph.proofs.Rank.{rank-on, rank-here, stored-is, stored-lt, stored-at}
+use Rattle.graph.proofs.Rank.{rank-on, rank-here, stored-is}
 use Rattle.graph.proofs.Fit.{fit-cons, fit-least, fit-each}
 
 -- What a fit table may store: a canonical k-mer.
@@ -44,6 +44,3 @@ module _ (K : ℕ) (ks : List ℕ) (f : fitFrom K 0 ks ≡ true) where
   -- Places with one key are one.
   pub key-inj : (i j : ℕ) → i < length ks → j < length ks → getD ks i 0 ≡ getD ks j 0 → i ≡ j
   key-inj i j hi hj e = sym (rank-at K 0 ks f i hi) ∙ ap (rank ks) e ∙ rank-at K 0 ks f j hj
-
-  pub stored-key : (x : ℕ) → stored ks x ≡ true → Key K x
-  stored-key x s = rw (stored-at ks x s) at (key-at (rank ks x) (stored-lt ks x s))

@@ -5,18 +5,18 @@ use mathlib.Core.Path.{_≡_, refl}
 use mathlib.Core.List.{List, [], _∷_, _++_, map}
 use lib.ListN.{take, replicate}
 use Rattle.dna.specs.Text.{bytes, openText}
-use Rattle.dna.specs.Answer.{Answer, gives, refuses, Filled}
+use Rattle.dna.specs.Answer.{Answer, gives, refuses}
 use Rattle.dna.specs.Letters.{openLetters}
 use Rattle.dna.specs.Order.{openOrder}
-use Rattle.kmer.specs.Kmer.{packed, openKmer, low, high}
+use Rattle.kmer.specs.Kmer.{packed, openKmer}
 use Rattle.kmer.specs.Calls.{packCall, reverseCall, openCalls}
 use Rattle.state.specs.Counted.{fourBits, openCounted}
 use Rattle.graph.specs.Table.{keysOf, openTable}
 use Rattle.graph.specs.Sightings.{sameCanonical, openSightings}
-use Rattle.graph.specs.Adding.{Edges, Added, addLabel, openAdding}
+use Rattle.graph.specs.Adding.{Edges, addLabel, openAdding}
 use Rattle.graph.specs.Walks.{openWalks}
 use Rattle.graph.specs.Labels.{openLabels}
-use Rattle.graph.specs.Contraction.{Totals, Contracted, contract, openContraction}
+use Rattle.graph.specs.Contraction.{Totals, contract, openContraction}
 use Rattle.graph.specs.Fasta.{fasta, openFasta}
 
 -- An example: labels added in order at one K to an empty table that is then contracted at some cutoffs, or a text packed at

@@ -5,7 +5,7 @@ use mathlib.Core.List.{List, [], _∷_, _++_}
 use lib.Dec.{leb}
 use lib.ListN.{length, take, drop}
 use Rattle.dna.specs.Text.{bytes}
-use Rattle.dna.specs.Answer.{Answer, refuses, Filled, fill}
+use Rattle.dna.specs.Answer.{refuses, Filled, fill}
 
 -- `>0`, newline, label, newline.
 abbrev pub recordOf : List ℕ → List ℕ

@@ -1,12 +1,11 @@
 -- The labels of a graph: one for each anchor. Assumes nothing.
 use Prim.Native.Nat.{ℕ, zero, suc, _+_}
-use mathlib.Core.Bool.{Bool, true, false, cond, _||_}
+use mathlib.Core.Bool.{Bool, false, cond, _||_}
 use mathlib.Core.List.{List, [], _∷_, _++_, map}
 use lib.ListN.{length, getD, replicate}
 use Rattle.dna.specs.Letters.{letterOf, reverseComplement}
 use Rattle.dna.specs.Order.{before}
 use Rattle.kmer.specs.Kmer.{rc, letters}
-use Rattle.state.specs.declared.Side.{Side}
 use Rattle.state.specs.declared.Side.the-variants.{Front, Back}
 use Rattle.graph.specs.Walks.{Ends, Walk, walk, closed, missing, visited, isolated}
 

@@ -48,7 +48,7 @@ expected e =
 abbrev rooms : String → List ℕ → List ℕ → List ℕ → Rooms
 rooms labels starts lengths marks = record { labels = labels; starts = starts; lengths = lengths; marks = marks }
 
--- A call that changes what it lists, and one that is refused: 8 and 9 set the first n marks to 0, and nothing else changes.
+-- A contraction that lists labels, and one that is refused, each with the rooms afterwards.
 abbrev lists : Table → Rooms → ℕ → ℕ → Rooms → Example
 lists t before labels bases after =
     record { table = t; before = before; answer = gives (record { labels = labels; bases = bases }); after = after }

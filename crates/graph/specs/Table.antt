@@ -1,6 +1,6 @@
 -- The table: canonical k-mers in ascending order, and a word of counters for each. Assumes nothing.
 use Prim.Native.Nat.{ℕ, zero, suc, _/_, _^_, min}
-use mathlib.Core.Bool.{Bool, true, false, cond, _&&_}
+use mathlib.Core.Bool.{Bool, true, cond, _&&_}
 use mathlib.Core.List.{List, [], _∷_, _++_}
 use lib.Dec.{ltb, leb, eqb}
 use lib.ListN.{length, take, drop, getD, set}

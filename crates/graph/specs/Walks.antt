@@ -1,7 +1,7 @@
 -- Walks, over the keys and each vertex's two ends: what it answers on Front and on Back. Assumes nothing.
 use Prim.Native.Nat.{ℕ, zero, suc}
 use mathlib.Core.Bool.{Bool, true, false, cond, not, _&&_}
-use mathlib.Core.List.{List, [], _∷_, map}
+use mathlib.Core.List.{List, [], _∷_}
 use lib.Dec.{eqb}
 use lib.ListN.{length, getD, set}
 use Rattle.dna.specs.Letters.{complement}
@@ -11,7 +11,6 @@ use Rattle.state.specs.declared.Side.the-variants.{Front, Back}
 use Rattle.state.specs.Counted.{Kind, opposite, sameSide, edgeAt}
 use Rattle.graph.specs.declared.Step.{Step}
 use Rattle.graph.specs.declared.Step.the-variants.{Next, Stop, Missing}
-use Rattle.graph.specs.declared.StopReason.{StopReason}
 use Rattle.graph.specs.declared.StopReason.the-variants.{NoEdge, SeveralEdges, BranchingAhead, VisitedAhead}
 use Rattle.graph.specs.Table.{rank, stored}
 

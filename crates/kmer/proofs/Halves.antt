@@ -23,7 +23,9 @@ halves-one k lo hi h =
     ∙ ap (λ (a : ℕ). a / 2 ^ (64 - 2 * k)) (rc-low 32 lo hi) in
     two-words _ (rc 32 lo / 2 ^ (64 - 2 * k)) 0 (r ∙ omega arith) (lt-of-le-of-lt (div-le-self (rc 32 lo) (2 ^ (64 - 2 * k))) (rc-lt 32 lo))
 
--- Two words moved down by s bits.
+-- ---- two words moved down by s bits
+
+-- The two words a₁ * P + a₀ and c₁ * P + c₀, one above the other, as a multiple of P and a rest; a word has W = R * P values.
 parts : (a₁ a₀ c₁ c₀ P R W : ℕ) → R * P ≡ W → (a₁ * P + a₀) * W + (c₁ * P + c₀) ≡ ((a₀ * R + c₁) + a₁ * W) * P + c₀
 parts a₁ a₀ c₁ c₀ P R W e =
     let l : (a₁ * P + a₀) * W ≡ a₁ * P * W + a₀ * W = add-mul (a₁ * P) a₀ W in
@@ -33,39 +35,42 @@ parts a₁ a₀ c₁ c₀ P R W e =
     let p : a₁ * P * W ≡ a₁ * W * P = mul-assoc a₁ P W ∙ ap (λ (x : ℕ). a₁ * x) (mul-comm P W) ∙ sym (mul-assoc a₁ W P) in
     omega arith
 
-module _ (s A C : ℕ) (hs : s ≤ 64) (hc : C < 2 ^ 64) where
-  back : (64 - s) + s ≡ 64
-  back = omega arith
+module _ (s hi lo : ℕ) (hs : s ≤ 64) (hl : lo < 2 ^ 64) where
+  whole : (64 - s) + s ≡ 64
+  whole = omega arith
 
   width : 2 ^ (64 - s) * 2 ^ s ≡ 2 ^ 64
-  width = sym (pow-add 2 (64 - s) s) ∙ ap (λ (n : ℕ). 2 ^ n) back
+  width = sym (pow-add 2 (64 - s) s) ∙ ap (λ (n : ℕ). 2 ^ n) whole
 
-  moved : (A * 2 ^ 64 + C) / 2 ^ s ≡ (A % 2 ^ s * 2 ^ (64 - s) + C / 2 ^ s) + A / 2 ^ s * 2 ^ 64
+  -- The high word's s low bits come in above what is left of the low word.
+  moved : (hi * 2 ^ 64 + lo) / 2 ^ s ≡ (hi % 2 ^ s * 2 ^ (64 - s) + lo / 2 ^ s) + hi / 2 ^ s * 2 ^ 64
   moved =
-      div-is (A * 2 ^ 64 + C) (2 ^ s) ((A % 2 ^ s * 2 ^ (64 - s) + C / 2 ^ s) + A / 2 ^ s * 2 ^ 64) (C % 2 ^ s)
-      (sym (ap₂ (λ (x y : ℕ). x * 2 ^ 64 + y) (split A s) (split C s))
-      ∙ parts (A / 2 ^ s) (A % 2 ^ s) (C / 2 ^ s) (C % 2 ^ s) (2 ^ s) (2 ^ (64 - s)) (2 ^ 64) width)
-      (mod-lt C (pow-pos s))
+      div-is (hi * 2 ^ 64 + lo) (2 ^ s) ((hi % 2 ^ s * 2 ^ (64 - s) + lo / 2 ^ s) + hi / 2 ^ s * 2 ^ 64) (lo % 2 ^ s)
+      (sym (ap₂ (λ (x y : ℕ). x * 2 ^ 64 + y) (split hi s) (split lo s))
+      ∙ parts (hi / 2 ^ s) (hi % 2 ^ s) (lo / 2 ^ s) (lo % 2 ^ s) (2 ^ s) (2 ^ (64 - s)) (2 ^ 64) width)
+      (mod-lt lo (pow-pos s))
 
-  top-bits : (A * 2 ^ (64 - s)) % 2 ^ 64 ≡ A % 2 ^ s * 2 ^ (64 - s)
+  -- They are all that is left of the high word once it is moved up.
+  top-bits : (hi * 2 ^ (64 - s)) % 2 ^ 64 ≡ hi % 2 ^ s * 2 ^ (64 - s)
   top-bits =
-      mod-is (A * 2 ^ (64 - s)) (2 ^ 64) (A / 2 ^ s) (A % 2 ^ s * 2 ^ (64 - s))
-      (ap (λ (x : ℕ). x * 2 ^ (64 - s)) (sym (split A s)) ∙ add-mul (A / 2 ^ s * 2 ^ s) (A % 2 ^ s) (2 ^ (64 - s))
-      ∙ ap (λ (x : ℕ). x + A % 2 ^ s * 2 ^ (64 - s))
-      (mul-assoc (A / 2 ^ s) (2 ^ s) (2 ^ (64 - s)) ∙ ap (λ (x : ℕ). A / 2 ^ s * x) (mul-comm (2 ^ s) (2 ^ (64 - s)) ∙ width)))
-      (subst (λ (n : ℕ). A % 2 ^ s * 2 ^ (64 - s) < n) (mul-comm (2 ^ s) (2 ^ (64 - s)) ∙ width)
-      (mul-lt-mul-of-pos-right (mod-lt A (pow-pos s)) (pow-pos (64 - s))))
+      mod-is (hi * 2 ^ (64 - s)) (2 ^ 64) (hi / 2 ^ s) (hi % 2 ^ s * 2 ^ (64 - s))
+      (ap (λ (x : ℕ). x * 2 ^ (64 - s)) (sym (split hi s)) ∙ add-mul (hi / 2 ^ s * 2 ^ s) (hi % 2 ^ s) (2 ^ (64 - s))
+      ∙ ap (λ (x : ℕ). x + hi % 2 ^ s * 2 ^ (64 - s))
+      (mul-assoc (hi / 2 ^ s) (2 ^ s) (2 ^ (64 - s)) ∙ ap (λ (x : ℕ). hi / 2 ^ s * x) (mul-comm (2 ^ s) (2 ^ (64 - s)) ∙ width)))
+      (subst (λ (n : ℕ). hi % 2 ^ s * 2 ^ (64 - s) < n) (mul-comm (2 ^ s) (2 ^ (64 - s)) ∙ width)
+      (mul-lt-mul-of-pos-right (mod-lt hi (pow-pos s)) (pow-pos (64 - s))))
 
-  low-bits : C / 2 ^ s < 2 ^ (64 - s)
-  low-bits = shr-lt (64 - s) s (subst (λ (n : ℕ). C < 2 ^ n) (sym back) hc)
+  low-bits : lo / 2 ^ s < 2 ^ (64 - s)
+  low-bits = shr-lt (64 - s) s (subst (λ (n : ℕ). lo < 2 ^ n) (sym whole) hl)
 
-  pub low-word : bitOr (C / 2 ^ s) ((A * 2 ^ (64 - s)) % 2 ^ 64) ≡ A % 2 ^ s * 2 ^ (64 - s) + C / 2 ^ s
-  low-word = ap (bitOr (C / 2 ^ s)) top-bits ∙ or-shifted-r (A % 2 ^ s) (64 - s) (C / 2 ^ s) low-bits
+  -- So this is the low word, as the code puts it together.
+  pub low-word : bitOr (lo / 2 ^ s) ((hi * 2 ^ (64 - s)) % 2 ^ 64) ≡ hi % 2 ^ s * 2 ^ (64 - s) + lo / 2 ^ s
+  low-word = ap (bitOr (lo / 2 ^ s)) top-bits ∙ or-shifted-r (hi % 2 ^ s) (64 - s) (lo / 2 ^ s) low-bits
 
-  pub low-room : A % 2 ^ s * 2 ^ (64 - s) + C / 2 ^ s < 2 ^ 64
+  pub low-room : hi % 2 ^ s * 2 ^ (64 - s) + lo / 2 ^ s < 2 ^ 64
   low-room =
-      subst (λ (n : ℕ). A % 2 ^ s * 2 ^ (64 - s) + C / 2 ^ s < n) (mul-comm (2 ^ s) (2 ^ (64 - s)) ∙ width)
-      (digits-lt (mod-lt A (pow-pos s)) low-bits)
+      subst (λ (n : ℕ). hi % 2 ^ s * 2 ^ (64 - s) + lo / 2 ^ s < n) (mul-comm (2 ^ s) (2 ^ (64 - s)) ∙ width)
+      (digits-lt (mod-lt hi (pow-pos s)) low-bits)
 
 -- K above 32: both words.
 pub halves-two : (k lo hi : ℕ) → 32 < k → k ≤ 63 → lo < 2 ^ 64 →

@@ -13,10 +13,12 @@ use Rattle.kmer.specs.Bits.{lowBits, highBits}
 use Rattle.kmer.specs.Says.{kmerOf}
 use Rattle.kmer.proofs.Wide.{four, masked, two-words}
 
+-- A bit of a word.
 pub one-shl : (n : ℕ) → n < 64 → (1 * 2 ^ n) % 2 ^ 64 ≡ 2 ^ n
 one-shl n h = mod-is (1 * 2 ^ n) (2 ^ 64) 0 (2 ^ n) (omega arith) (pow-lt h)
 
-pub up-low : (w b : ℕ) → b < 4 → (4 * w + b) % 2 ^ 64 ≡ 4 * (w % 2 ^ 62) + b
+-- A word up a base: its top base is lost.
+up-low : (w b : ℕ) → b < 4 → (4 * w + b) % 2 ^ 64 ≡ 4 * (w % 2 ^ 62) + b
 up-low w b h = mod-is (4 * w + b) (2 ^ 64) (w / 2 ^ 62) (4 * (w % 2 ^ 62) + b) (omega arith) (omega arith)
 
 -- One base in at the bottom of a word.
@@ -39,7 +41,7 @@ pub up : (lo hi b : ℕ) → b < 4 → 4 * joined lo hi + b ≡ joined ((4 * lo 
 up lo hi b h = let e = up-low lo b h in omega arith
 
 -- Both words down a base.
-pub down : (lo hi : ℕ) → lo < 2 ^ 64 → joined lo hi / 4 ≡ joined (hi % 4 * 2 ^ 62 + lo / 4) (hi / 4)
+down : (lo hi : ℕ) → lo < 2 ^ 64 → joined lo hi / 4 ≡ joined (hi % 4 * 2 ^ 62 + lo / 4) (hi / 4)
 down lo hi h = div-is (joined lo hi) 4 (joined (hi % 4 * 2 ^ 62 + lo / 4) (hi / 4)) (lo % 4) (omega arith) (omega arith)
 
 -- The top base of the low word is carried into the high word, and both are cut to 2 * k bits.
@@ -71,17 +73,18 @@ pub rolled-down-low : (k lo hi b : ℕ) → lo < 2 ^ 64 → b < 4 → 2 * (k - 1
     ≡ record { words = bitOr (hi % 4 * 2 ^ 62 + lo / 4) ((b * 2 ^ (2 * (k - 1))) % 2 ^ 64) ∷ hi / 4 ∷ [] }
 unfolding backward
 rolled-down-low k lo hi b h l s one n =
-    let e : 2 * k ≡ 2 * (k - 1) + 2 = omega arith in
-    let p : 4 ^ k ≡ 2 ^ (2 * (k - 1)) * 2 ^ 2 = four k ∙ ap (λ (x : ℕ). 2 ^ x) e ∙ pow-add 2 (2 * (k - 1)) 2 in
-    let q : 2 ^ (2 * (k - 1)) ≤ 2 ^ 62 = pow-mono {i = 2 * (k - 1)} {j = 62} (omega arith) in
-    let low : hi % 4 * 2 ^ 62 + lo / 4 < 2 ^ (2 * (k - 1)) = omega (arith, p) in
-    let t : bitOr (hi % 4 * 2 ^ 62 + lo / 4) ((b * 2 ^ (2 * (k - 1))) % 2 ^ 64) ≡ b * 2 ^ (2 * (k - 1)) + (hi % 4 * 2 ^ 62 + lo / 4) =
-    ap (bitOr (hi % 4 * 2 ^ 62 + lo / 4)) (shl-in b (2 * (k - 1)) l (omega arith))
-    ∙ or-shifted-r b (2 * (k - 1)) (hi % 4 * 2 ^ 62 + lo / 4) low in
-    let room : b * 2 ^ (2 * (k - 1)) + (hi % 4 * 2 ^ 62 + lo / 4) < 2 ^ 64 = lt-of-lt-of-le (digits-lt l low) (omega arith) in
+    let j : ℕ = 2 * (k - 1) in
+    let rest : ℕ = hi % 4 * 2 ^ 62 + lo / 4 in
+    let bits : 2 * k ≡ j + 2 = omega arith in
+    let whole : 4 ^ k ≡ 2 ^ j * 2 ^ 2 = four k ∙ ap (λ (x : ℕ). 2 ^ x) bits ∙ pow-add 2 j 2 in
+    let top : 2 ^ j ≤ 2 ^ 62 = pow-mono {i = j} {j = 62} (omega arith) in
+    let low : rest < 2 ^ j = omega (arith, whole) in
+    let put : bitOr rest ((b * 2 ^ j) % 2 ^ 64) ≡ b * 2 ^ j + rest =
+    ap (bitOr rest) (shl-in b j l (omega arith)) ∙ or-shifted-r b j rest low in
+    let room : b * 2 ^ j + rest < 2 ^ 64 = lt-of-lt-of-le (digits-lt l low) (omega arith) in
     ap kmerOf (ap₂ (λ (x y : ℕ). b * x + y) (four (k - 1)) (down lo hi h))
-    ∙ two-words _ (b * 2 ^ (2 * (k - 1)) + (hi % 4 * 2 ^ 62 + lo / 4)) (hi / 4) (omega arith) room
-    ∙ ap (λ (x : ℕ). record { words = x ∷ hi / 4 ∷ [] }) (sym t)
+    ∙ two-words _ (b * 2 ^ j + rest) (hi / 4) (omega arith) room
+    ∙ ap (λ (x : ℕ). record { words = x ∷ hi / 4 ∷ [] }) (sym put)
 
 -- The new base goes into the high word.
 pub rolled-down-high : (k lo hi b : ℕ) → lo < 2 ^ 64 → b < 4 → 64 ≤ 2 * (k - 1) → k ≤ 63 → joined lo hi < 4 ^ k →
@@ -90,14 +93,14 @@ pub rolled-down-high : (k lo hi b : ℕ) → lo < 2 ^ 64 → b < 4 → 64 ≤ 2 
 unfolding backward
 rolled-down-high k lo hi b h l s top n =
     let j : ℕ = 2 * (k - 1) - 64 in
-    let e : 2 * k ≡ (2 * (k - 1) - 64) + 66 = omega arith in
-    let e' : 2 * (k - 1) ≡ (2 * (k - 1) - 64) + 64 = omega arith in
-    let p : 4 ^ k ≡ 2 ^ (2 * (k - 1) - 64) * 2 ^ 66 = four k ∙ ap (λ (x : ℕ). 2 ^ x) e ∙ pow-add 2 j 66 in
-    let p' : 4 ^ (k - 1) ≡ 2 ^ (2 * (k - 1) - 64) * 2 ^ 64 = four (k - 1) ∙ ap (λ (x : ℕ). 2 ^ x) e' ∙ pow-add 2 j 64 in
-    let high : hi / 4 < 2 ^ (2 * (k - 1) - 64) = omega (arith, p) in
-    let t : bitOr (hi / 4) ((b * 2 ^ (2 * (k - 1) - 64)) % 2 ^ 64) ≡ b * 2 ^ (2 * (k - 1) - 64) + hi / 4 =
+    let rest : ℕ = hi % 4 * 2 ^ 62 + lo / 4 in
+    let bits : 2 * k ≡ j + 66 = omega arith in
+    let shift : 2 * (k - 1) ≡ j + 64 = omega arith in
+    let whole : 4 ^ k ≡ 2 ^ j * 2 ^ 66 = four k ∙ ap (λ (x : ℕ). 2 ^ x) bits ∙ pow-add 2 j 66 in
+    let unit : 4 ^ (k - 1) ≡ 2 ^ j * 2 ^ 64 = four (k - 1) ∙ ap (λ (x : ℕ). 2 ^ x) shift ∙ pow-add 2 j 64 in
+    let high : hi / 4 < 2 ^ j = omega (arith, whole) in
+    let put : bitOr (hi / 4) ((b * 2 ^ j) % 2 ^ 64) ≡ b * 2 ^ j + hi / 4 =
     ap (bitOr (hi / 4)) (shl-in b j l (omega arith)) ∙ or-shifted-r b j (hi / 4) high in
-    ap kmerOf (ap₂ (λ (x y : ℕ). b * x + y) p' (down lo hi h))
-    ∙ two-words _ (hi % 4 * 2 ^ 62 + lo / 4) (b * 2 ^ (2 * (k - 1) - 64) + hi / 4)
-    (omega (arith, mul-assoc b (2 ^ (2 * (k - 1) - 64)) (2 ^ 64))) (omega arith)
-    ∙ ap (λ (x : ℕ). record { words = (hi % 4 * 2 ^ 62 + lo / 4) ∷ x ∷ [] }) (sym t)
+    ap kmerOf (ap₂ (λ (x y : ℕ). b * x + y) unit (down lo hi h))
+    ∙ two-words _ rest (b * 2 ^ j + hi / 4) (omega (arith, mul-assoc b (2 ^ j) (2 ^ 64))) (omega arith)
+    ∙ ap (λ (x : ℕ). record { words = rest ∷ x ∷ [] }) (sym put)

@@ -1,4 +1,4 @@
--- The two strands of a k-mer: the reverse complement, of a roll too, and the canonical form. Assumes nothing.
+-- The two strands of a k-mer: its reverse complement, that of a roll, and the canonical form, which is one for both. Assumes nothing.
 use mathlib.Core.Path.{_≡_, sym, ap, ap₂, _∙_}
 use mathlib.Core.Bool.{true}
 use mathlib.Core.Logic.{⊎-elim}
@@ -47,6 +47,7 @@ rc-rc (suc k) x h =
 
 -- ---- rolls
 
+-- A rolled k-mer is a k-mer.
 pub forward-lt : (K x b : ℕ) → forward K x b < 4 ^ K
 unfolding forward
 forward-lt K x b = mod-lt (4 * x + b) (four-pos K)
@@ -71,6 +72,7 @@ rc-forward (suc k) x b one h =
     rc-mod (suc k) (4 * x + b) ∙ ap₂ (λ (c y : ℕ). (3 - c) * 4 ^ k + rc k y) m q
     ∙ ap₂ (λ (j y : ℕ). (3 - b) * 4 ^ j + y) (sym e) (sym s)
 
+-- And the other way round.
 pub rc-backward : (K x b : ℕ) → 1 ≤ K → x < 4 ^ K → b < 4 → rc K (backward K x b) ≡ forward K (rc K x) (3 - b)
 rc-backward K x b one h l =
     let d : 3 - (3 - b) ≡ b = omega arith in
@@ -95,6 +97,7 @@ module _ (K x : ℕ) (h : x < 4 ^ K) where
       ⊎-elim (λ t. ap (canon K) (sym (canon-turned K x t)) ∙ canon-rc) (λ t. ap (canon K) (sym (canon-same K x t)))
       (true-or-false (ltb (rc K x) x))
 
+-- A k-mer is canonical exactly where it is its own canonical form.
 pub canon-of-canonical : (K x : ℕ) → isCanon K x ≡ true → canon K x ≡ x
 unfolding canon isCanon
 canon-of-canonical K x t = omega (arith, leb-true x (rc K x) t)

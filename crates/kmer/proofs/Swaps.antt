@@ -2,7 +2,8 @@
 -- the halves of each field; five such steps reverse the 32 base-4 digits of a word. Assumes nothing.
 use mathlib.Core.Path.{_≡_, refl, sym, ap, ap₂, _∙_, subst}
 use Prim.Native.Nat.{ℕ, zero, suc, _+_, _-_, _*_, _/_, _%_, _^_, _<_}
-use native.Mathlib.Nat.{mod-lt, mod-one, mod-eq-of-lt, add-mul, add-assoc, mul-assoc, mul-comm, lt-of-lt-of-le, lt-of-le-of-lt, le-add-right, mul-le-mul-right, zero-mul}
+use native.Mathlib.Nat.{mod-lt, mod-one, mod-eq-of-lt, add-mul, add-assoc, mul-assoc, mul-comm, zero-mul}
+use native.Mathlib.Nat.{lt-of-lt-of-le, lt-of-le-of-lt, le-add-right, mul-le-mul-right}
 use native.Mathlib.Omega.{arith}
 use lib.Arith.{digits-div, digits-mod}
 use lib.Pow.{pow-pos, pow-mono, split, shr-shr, shl-lt, mod-mod-pow, mod-pow-add, ones-lt}
@@ -20,6 +21,7 @@ unfoldable pub swaps : ℕ → ℕ → ℕ → ℕ
 swaps k zero y = zero
 swaps k (suc m) y = swaps k m (y / 2 ^ (k + k)) * 2 ^ (k + k) + (y % 2 ^ k * 2 ^ k + y / 2 ^ k % 2 ^ k)
 
+-- The mask keeps the lower half of the lowest field.
 low-field : (k y e : ℕ) → bitAnd y (e * 2 ^ (k + k) + (2 ^ k - 1)) ≡ bitAnd (y / 2 ^ (k + k)) e * 2 ^ (k + k) + y % 2 ^ k
 low-field k y e =
     ap (λ (n : ℕ). bitAnd n (e * 2 ^ (k + k) + (2 ^ k - 1))) (sym (split y (k + k)))
@@ -35,6 +37,7 @@ spread a p q r =
     add-mul (a * p) r q
     ∙ ap (λ (n : ℕ). n + r * q) (mul-assoc a p q ∙ ap (λ (n : ℕ). a * n) (mul-comm p q) ∙ sym (mul-assoc a q p))
 
+-- A step exchanges the halves of each field.
 swap-is : (k m y : ℕ) → bitOr (bitAnd y (evens k m) * 2 ^ k) (bitAnd (y / 2 ^ k) (evens k m)) ≡ swaps k m y
 unfolding evens swaps
 swap-is k zero y =
@@ -56,6 +59,7 @@ swap-is k (suc m) y =
 abbrev pub step : (mask k y : ℕ) → ℕ
 step mask k y = bitOr ((bitAnd y mask * 2 ^ k) % 2 ^ 64) (bitAnd (y / 2 ^ k) mask)
 
+-- Where the mask leaves room for the shift, this exchanges the halves of each field.
 pub step-is : (mask k m y : ℕ) → mask ≡ evens k m → mask * 2 ^ k < 2 ^ 64 → step mask k y ≡ swaps k m y
 step-is mask k m y e h =
     ap (λ (p : ℕ). bitOr p (bitAnd (y / 2 ^ k) mask)) (mod-eq-of-lt (lt-of-le-of-lt (mul-le-mul-right (2 ^ k) (and-le-r y mask)) h))
@@ -63,19 +67,21 @@ step-is mask k m y e h =
 
 -- ---- fields of d digits, each turned round
 
+-- 2 * m, one field at a time.
 twice : ℕ → ℕ
 twice zero = zero
 twice (suc m) = suc (suc (twice m))
 
+-- In each of the m low fields of d digits, the digits in reverse order.
 flips : ℕ → ℕ → ℕ → ℕ
 flips d zero x = zero
 flips d (suc m) x = flips d m (x / 2 ^ (d + d)) * 2 ^ (d + d) + turned same d x
 
-dbl : (d : ℕ) → 4 ^ d ≡ 2 ^ (d + d)
-dbl d = four d ∙ ap (λ (n : ℕ). 2 ^ n) (omega arith)
+four-double : (d : ℕ) → 4 ^ d ≡ 2 ^ (d + d)
+four-double d = four d ∙ ap (λ (n : ℕ). 2 ^ n) (omega arith)
 
-rev-below : (d x : ℕ) → turned same d x < 2 ^ (d + d)
-rev-below d x = subst (λ (n : ℕ). turned same d x < n) (dbl d) (turned-lt same same-lt d x)
+turned-below : (d x : ℕ) → turned same d x < 2 ^ (d + d)
+turned-below d x = subst (λ (n : ℕ). turned same d x < n) (four-double d) (turned-lt same same-lt d x)
 
 -- Fields of one digit are what they are.
 flips-one : (m x : ℕ) → flips 1 m x ≡ x % 2 ^ (m + m)
@@ -86,6 +92,7 @@ flips-one (suc m) x =
     ap (λ (p : ℕ). p * 2 ^ 2 + (x % 4 * 1 + 0)) (flips-one m (x / 2 ^ 2))
     ∙ omega (arith, mod-pow-add x (m + m) 2, ap (λ (n : ℕ). x % 2 ^ n) e)
 
+-- Two neighbouring fields, each turned round, and then exchanged: the field of both, turned round.
 swaps-flips : (d m x : ℕ) → swaps (d + d) m (flips d (twice m) x) ≡ flips (d + d) m x
 unfolding swaps flips twice
 swaps-flips d zero x = refl
@@ -94,8 +101,8 @@ swaps-flips d (suc m) x =
     let a : ℕ = flips d (twice m) (x / 2 ^ k / 2 ^ k) in
     let o₁ : ℕ = turned same d (x / 2 ^ k) in
     let o₀ : ℕ = turned same d x in
-    let l₁ : o₁ < 2 ^ k = rev-below d (x / 2 ^ k) in
-    let l₀ : o₀ < 2 ^ k = rev-below d x in
+    let l₁ : o₁ < 2 ^ k = turned-below d (x / 2 ^ k) in
+    let l₀ : o₀ < 2 ^ k = turned-below d x in
     let y : ℕ = (a * 2 ^ k + o₁) * 2 ^ k + o₀ in
     let hi : y / 2 ^ (k + k) ≡ a =
     sym (shr-shr y k k) ∙ ap (λ (n : ℕ). n / 2 ^ k) (digits-div (a * 2 ^ k + o₁) l₀) ∙ digits-div a l₁ in
@@ -105,9 +112,9 @@ swaps-flips d (suc m) x =
     ∙ ap (λ (n : ℕ). n * 2 ^ (k + k) + (o₀ * 2 ^ k + o₁))
     (swaps-flips d m (x / 2 ^ k / 2 ^ k) ∙ ap (λ (n : ℕ). flips k m n) (shr-shr x k k))
     ∙ ap (λ (n : ℕ). flips k m (x / 2 ^ (k + k)) * 2 ^ (k + k) + n)
-    (sym (turned-cat same d d x ∙ ap₂ (λ (p q : ℕ). o₀ * p + turned same d (x / q)) (dbl d) (dbl d)))
+    (sym (turned-cat same d d x ∙ ap₂ (λ (p q : ℕ). o₀ * p + turned same d (x / q)) (four-double d) (four-double d)))
 
--- Five steps turn a word round.
+-- So five steps, from fields of one digit to the field of all 32, turn a word round.
 pub flipped : (x : ℕ) → x < 2 ^ 64 → swaps 32 1 (swaps 16 2 (swaps 8 4 (swaps 4 8 (swaps 2 16 x)))) ≡ turned same 32 x
 unfolding twice flips
 flipped x h =

@@ -21,15 +21,16 @@ use Rattle.kmer.specs.declared.TestAnswer.the-variants as test
 use Rattle.kmer.specs.declared.LettersAnswer.{LettersAnswer}
 use Rattle.kmer.specs.declared.LettersAnswer.the-variants as letters
 
--- The refusal of a number and its values, by document 01's table; no call here has a number that is not in the list.
-abbrev pub errorIn : ℕ → List ℕ → KmerError
+-- The refusal with a number and values, by document 01's table: 14 is past the list's end and read as its default, and no call here
+-- has another number that is not listed.
+abbrev errorIn : ℕ → List ℕ → KmerError
 errorIn r values =
     getD
     (NotBelow ∷ UnsupportedK (getD values 0 0) ∷ TooShort (getD values 0 0) ∷ InvalidBase (getD values 0 0) (getD values 1 0)
     ∷ NotBelow ∷ NotBelow ∷ NotBelow ∷ NotBelow ∷ NotBelow ∷ NoRoom ∷ OutOfRange ∷ [])
     r NotBelow
 
--- A refusal in an answer; g where there is none.
+-- What an answer gives, through g, or the refusal in it, through f.
 abbrev read : {A X : Type 0} → (A → X) → (KmerError → X) → Answer A → X
 read g f (gives a) = g a
 read g f (refuses r values) = f (errorIn r values)
@@ -50,13 +51,14 @@ never-gives {A} e {a} h =
     absurd (omega arith)
 
 -- No two refusals are the same answer.
-pub refusal-one : (e f : KmerError) → refusal {A = ℕ} e ≡ refusal f → e ≡ f
+refusal-one : (e f : KmerError) → refusal {A = ℕ} e ≡ refusal f → e ≡ f
 refusal-one e f h =
     sym (read-refusal (λ (n : ℕ). NotBelow) (λ (g : KmerError). g) e) ∙ ap (read (λ (n : ℕ). NotBelow) (λ (g : KmerError). g)) h
     ∙ read-refusal (λ (n : ℕ). NotBelow) (λ (g : KmerError). g) f
 
 -- ---- each enum
 
+-- What a call that makes a k-mer returns for an answer.
 abbrev pub kmerIn : Answer ℕ → Answered
 kmerIn a = record { answer = read (λ (n : ℕ). kmer.Done) kmer.Refused a; kmer = kmerOf (numberIn a) }
 

@@ -1,4 +1,5 @@
--- Letters and packing undo each other, and the order of numbers is the byte order of their letters. Assumes nothing.
+-- Letters and packing undo each other; the order of numbers is the byte order of their letters; the letters of the reverse complement
+-- are the reverse complement of the letters. Assumes nothing.
 use mathlib.Core.Path.{_≡_, refl, sym, ap, ap₂, _∙_}
 use mathlib.Core.Bool.{true, false}
 use mathlib.Core.Logic.{⊎-elim}

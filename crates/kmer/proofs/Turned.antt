@@ -55,7 +55,6 @@ pub comp-same : (d x : ℕ) → turned comp d x + turned same d x + 1 ≡ 4 ^ d
 unfolding turned
 comp-same zero x = refl
 comp-same (suc d) x =
-    let l : x % 4 < 4 = mod-lt x (zero-lt-suc 3) in
     let e : (3 - x % 4) + x % 4 ≡ 3 = omega arith in
     let m : (3 - x % 4) * 4 ^ d + x % 4 * 4 ^ d ≡ 3 * 4 ^ d =
     sym (add-mul (3 - x % 4) (x % 4) (4 ^ d)) ∙ ap (λ (n : ℕ). n * 4 ^ d) e in
@@ -78,7 +77,6 @@ pub rc-low : (k x y : ℕ) → rc k (x + 4 ^ k * y) ≡ rc k x
 unfolding rc
 rc-low zero x y = refl
 rc-low (suc k) x y =
-    let z : ℕ = 4 ^ k * y in
     let e : 4 ^ suc k * y ≡ 4 * (4 ^ k * y) = ap (λ (n : ℕ). n * y) (pow-succ' 4 k) ∙ mul-assoc 4 (4 ^ k) y in
     let m : (x + 4 ^ suc k * y) % 4 ≡ x % 4 = omega arith in
     let q : (x + 4 ^ suc k * y) / 4 ≡ x / 4 + 4 ^ k * y = omega arith in

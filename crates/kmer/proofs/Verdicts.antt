@@ -82,7 +82,7 @@ answers-gives {y} {a} n p q =
       beside = p ∙ ap (λ (z : Answer ℕ). kmerOf (numberIn z)) q;
     }
 
--- ---- what a verdict decides
+-- ---- what a verdict decides; a call that is given no number counts as one that is given 0, with the bound 1
 
 module _ (K x bound number : ℕ) (v : KmerAnswer) (told : saysThen v done ≡ onKmer K x (below bound number done)) where
   call : {A : Type 0} (a : Answer A) → saysThen v a ≡ onKmer K x (below bound number a)

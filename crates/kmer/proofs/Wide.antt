@@ -15,6 +15,7 @@ use Rattle.kmer.specs.Bits.{lowBits, highBits}
 use Rattle.kmer.specs.Says.{kmerOf, valueOf}
 use Rattle.kmer.specs.declared.Kmer.{Kmer}
 
+-- A base is two bits.
 pub four : (k : ℕ) → 4 ^ k ≡ 2 ^ (2 * k)
 four zero = refl
 four (suc k) =
@@ -77,6 +78,7 @@ masked k lo hi h =
 -- ---- below 4 to the K, word by word
 
 module _ (k lo hi : ℕ) (h : lo < 2 ^ 64) where
+  -- Neither word uses a bit too many.
   below-yes : lo ≤ 2 ^ lowBits k - 1 → hi ≤ 2 ^ highBits k - 1 → joined lo hi < 4 ^ k
   below-yes a b =
       let m : joined lo hi % 4 ^ k ≡ joined lo hi =
@@ -84,11 +86,13 @@ module _ (k lo hi : ℕ) (h : lo < 2 ^ 64) where
       ∙ ap₂ joined (mod-eq-of-lt (lt-of-le-ones (lowBits k) a)) (mod-eq-of-lt (lt-of-le-ones (highBits k) b)) in
       rw m at (mod-lt (joined lo hi) (four-pos k))
 
+  -- A number that the remainder makes smaller was not below.
   shrinks : joined lo hi % 4 ^ k < joined lo hi → 4 ^ k ≤ joined lo hi
   shrinks s =
       ⊎-elim (λ l. absurd (lt-irrefl (joined lo hi) (rw (mod-eq-of-lt {n = joined lo hi} {m = 4 ^ k} l) at s))) (λ l. l)
       (lt-or-ge (joined lo hi) (4 ^ k))
 
+  -- One of the words uses a bit too many.
   pub above-low : 2 ^ lowBits k - 1 < lo → 4 ^ k ≤ joined lo hi
   above-low a =
       shrinks

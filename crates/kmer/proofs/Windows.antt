@@ -1,7 +1,7 @@
 -- Texts of bases as numbers, and the windows of a text: each is the one before it, rolled forward. Assumes nothing.
 use mathlib.Core.Path.{_≡_, refl, sym, ap, _∙_}
 use mathlib.Core.List.{List, [], _∷_, _++_}
-use Prim.Native.Nat.{ℕ, zero, suc, _+_, _-_, _*_, _^_, _≤_, _<_}
+use Prim.Native.Nat.{ℕ, zero, suc, _+_, _*_, _^_, _≤_, _<_}
 use native.Mathlib.Nat.{pow-suc, pow-succ', mul-assoc, mul-comm, add-mul}
 use native.Mathlib.Omega.{arith}
 use lib.Arith.{digits-lt, digits-mod}

@@ -20,7 +20,7 @@ onKmer K x answer = withK K (cond (ltb x (4 ^ K)) answer (refuses 14 []))
 abbrev pub below : {A : Type 0} → ℕ → ℕ → Answer A → Answer A
 below bound i answer = cond (ltb i bound) answer (refuses 10 [])
 
--- A text's number, or refusal 3 with the place and the byte that are no base.
+-- The number of a text without a bad byte; else refusal 3 with the first bad byte's place and the byte, as `firstBad` lists them.
 unfoldable pub packBases : List ℕ → List ℕ → Answer ℕ
 packBases s [] = gives (packed s)
 packBases s (place ∷ byte) = refuses 3 (place ∷ byte)
@@ -54,7 +54,7 @@ forwardCall K x b = onKmer K x (below 4 b (gives (forward K x b)))
 abbrev pub backwardCall : ℕ → ℕ → ℕ → Answer ℕ
 backwardCall K x b = onKmer K x (below 4 b (gives (backward K x b)))
 
--- The first k-mer is smaller than the second.
+-- Whether the first k-mer is smaller than the second.
 abbrev pub lessCall : ℕ → ℕ → ℕ → Answer Bool
 lessCall K x y = onKmer K x (onKmer K y (gives (ltb x y)))
 

@@ -25,11 +25,11 @@ unfoldable pub onto : ℕ → List ℕ → ℕ
 onto x [] = x
 onto x (b ∷ s) = onto (4 * x + codeOf b) s
 
--- The bases of a text as a number.
+-- A text as a number, where every byte of it is a base.
 abbrev pub packed : List ℕ → ℕ
 packed s = onto 0 s
 
--- The base at place i, the first at 0.
+-- The base at place i below K, the first at 0.
 unfoldable pub baseAt : ℕ → ℕ → ℕ → ℕ
 baseAt K x i = x / 4 ^ (K - 1 - i) % 4
 
@@ -42,7 +42,7 @@ rc (suc k) x = (3 - x % 4) * 4 ^ k + rc k (x / 4)
 unfoldable pub canon : ℕ → ℕ → ℕ
 canon K x = min x (rc K x)
 
--- A k-mer is in canonical form; a palindrome counts as canonical.
+-- A k-mer is canonical where its reverse complement is not smaller; so a palindrome is.
 unfoldable pub isCanon : ℕ → ℕ → Bool
 isCanon K x = leb x (rc K x)
 

@@ -63,11 +63,11 @@ abbrev pub numberIn : Answer ℕ → ℕ
 numberIn (gives n) = n
 numberIn (refuses r values) = 0
 
--- A refused call's zero k-mer.
+-- What a refused call returns: its refusal, with the zero k-mer beside it.
 abbrev pub refusedBy : KmerError → Answered
 refusedBy e = record { answer = kmer.Refused e; kmer = kmerOf 0 }
 
--- A call that makes a k-mer: what it says, and which k-mer stands beside that.
+-- A call that makes a k-mer: what it says, and which k-mer stands beside that, the zero k-mer beside a refusal.
 pub record Answers (r : Answered) (a : Answer ℕ) : Type 0 where
   pub answer : saysThen (r .answer) (gives (valueOf (r .kmer))) ≡ a
   pub beside : r .kmer ≡ kmerOf (numberIn a)

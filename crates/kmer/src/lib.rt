@@ -33,7 +33,7 @@ impl Kmer {
     }
 }
 
-// Why a call was refused.
+// Why a call was refused; `refusal` of specs/Says.antt gives each its number.
 pub enum KmerError {
     UnsupportedK(usize),
     TooShort(usize),

@@ -3,7 +3,7 @@ ghost use mathlib.Core.Path.{_≡_};
 ghost use Rattle.lemmas.proofs.Tables.{made};
 ghost use Rattle.kmer.specs.Kmer.{quadOf};
 
-// The four letters of a byte, whose rule over all entries is the contract of `table`: top two bits first, first letter in the lowest byte.
+// Entry b is the four letters of b, top two bits first, first letter in the lowest byte: `table` has this rule for its contract.
 pub const ASCII_QUADS: [u32; 256] = [
     0x4141_4141,
     0x4341_4141,
@@ -263,6 +263,7 @@ pub const ASCII_QUADS: [u32; 256] = [
     0x5454_5454,
 ];
 
+// The constant, proved to be its rule at each of the 256 entries.
 pub(crate) fn table() -> [u32; 256]
     ensures { λ r. ⌜ r ≡ made quadOf 0 256 ⌝ }
 {

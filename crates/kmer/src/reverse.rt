@@ -9,7 +9,8 @@ use super::Kmer;
 use super::KmerAnswer;
 use super::verdict;
 
-// The 32 bases of a word, the last first: neighbours change places, then pairs, fours, bytes' pairs and halves.
+// The 32 bases of a word, the last first: neighbours change places, then pairs, fours, eights and halves. The contract says it of the
+// reverse complement, which is what `!` makes of the result.
 fn flip(word: u64) -> u64
     ensures { λ r. ⌜ r + rc 32 word + 1 ≡ 2 ^ 64 ⌝ }
 {

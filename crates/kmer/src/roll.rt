@@ -12,7 +12,7 @@ use super::verdict;
 use super::words;
 use dna::Base;
 
-// Both words move up a base; the top base of the low word enters the high word.
+// Both words move up a base; the top base of the low word enters the high word, and what is past K bases is masked off.
 fn forward(k: usize, x: Kmer, bits: u64) -> Kmer
     requires { ⌜ (k ≤ 63) × (bits < 4) ⌝ }
     ensures { λ r. ⌜ r ≡ kmerOf (forward k (valueOf x) bits) ⌝ }
@@ -24,7 +24,8 @@ fn forward(k: usize, x: Kmer, bits: u64) -> Kmer
     Kmer { words: [low, high] }
 }
 
-// Both words move down a base; the last base of the high word enters the low word at the top.
+// Both words move down a base; the last base of the high word enters the low word at the top, and the new base the word in which the
+// first of K bases stands.
 fn backward(k: usize, x: Kmer, bits: u64) -> Kmer
     requires { ⌜ (1 ≤ k) × (k ≤ 63) × (bits < 4) × (valueOf x < 4 ^ k) ⌝ }
     ensures { λ r. ⌜ r ≡ kmerOf (backward k (valueOf x) bits) ⌝ }

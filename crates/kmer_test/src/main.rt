@@ -82,21 +82,21 @@ fn test(t: TestAnswer) {
     }
 }
 
+fn written(a: LettersAnswer) {
+    match a {
+        LettersAnswer::Written(n) => number(n as u64),
+        LettersAnswer::Refused(e) => error(e),
+    }
+    text(b" ");
+}
+
 // The letters in a slice of 66 dots, and in one that may be too short.
 fn letters(k: usize, x: Kmer) {
     let mut room = [b'.'; 66];
-    match x.append_ascii(k, &mut room) {
-        LettersAnswer::Written(n) => number(n as u64),
-        LettersAnswer::Refused(e) => error(e),
-    }
-    text(b" ");
+    written(x.append_ascii(k, &mut room));
     text(&room);
     let mut short = [b'.'; 32];
-    match x.append_ascii(k, &mut short) {
-        LettersAnswer::Written(n) => number(n as u64),
-        LettersAnswer::Refused(e) => error(e),
-    }
-    text(b" ");
+    written(x.append_ascii(k, &mut short));
     text(&short);
 }
 
@@ -153,6 +153,7 @@ fn from_words(k: usize, low: u64, high: u64) {
     kmer_lines(k, Kmer { words });
 }
 
+// A k-mer against the number that fills the low word, either way round, against itself, and zero against it.
 fn compare(k: usize, low: u64, high: u64) {
     let words = [low, high];
     let x = Kmer { words };

@@ -1,5 +1,5 @@
--- The edges of a grown table: each that is counted is counted at two ends, and for odd K alike, loops of one repeated base
--- excepted. Assumes nothing.
+-- The edges of a grown table: each that is counted leads the same way back from its other end, and for odd K its two counters are
+-- the same, loops of one repeated base excepted. Assumes nothing.
 use mathlib.Core.Path.{_≡_, refl, sym, ap, _∙_, subst}
 use mathlib.Core.Bool.{true}
 use mathlib.Core.List.{List}

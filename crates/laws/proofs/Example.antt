@@ -1,5 +1,5 @@
--- What the theorems ask is met by P1's label, and what they except is needed: in P1 the loop of CCC, in P4 an even K. Assumes
--- nothing.
+-- What the theorems ask is met by P1's label, and what they except is needed: in P1 the loop of CCC, in P4 an even K; and what the
+-- definitions count, computed. Assumes nothing.
 use mathlib.Core.Path.{_≡_, refl}
 use mathlib.Core.Bool.{true}
 use mathlib.Core.List.{[], _∷_}
@@ -55,7 +55,7 @@ pub p4-isolated : let ks = keysOf 2 (3 ∷ 0 ∷ 4 ∷ 0 ∷ []) in
 unfolding openText openLetters openOrder openKmer openCounted openTable openWalks openLabels openContraction openWindows
 p4-isolated = (refl, refl)
 
--- What the definitions count, computed: a k-mer is shown and occurs on either strand, and every label is counted.
+-- A k-mer is shown and occurs on either strand, and every label is counted.
 pub either-strand : (seenIn 3 (bytes "GGGGT" ∷ []) 5 ≡ true) × (occurs 3 5 (bytes "GGT") ≡ 1)
 unfolding openText openLetters openKmer openGrown openWindows
 either-strand = (refl, refl)

@@ -1,5 +1,5 @@
--- Contraction of every fit table in lent slices: its labels meet demand 3 but for the last sentence, and their number of bases
--- is bounded. Assumes nothing.
+-- Contraction of every fit table in lent slices: its labels meet demand 3 but for the last sentence, the number of their bases is
+-- bounded, and its marks tell which k-mers stand in them. Assumes nothing.
 use mathlib.Core.Path.{_≡_, ap, subst}
 use mathlib.Core.Bool.{true}
 use mathlib.Core.List.{List}

@@ -64,6 +64,7 @@ module _ (K : ℕ) (ks : List ℕ) (es : List Ends) (a : ℕ) (start : Side) whe
         bases = ap (λ (bs : List ℕ). b ∷ bs) (r .bases);
       }
 
+  -- A walk goes along a trail.
   pub walk-went : (marks : List ℕ) → length marks ≡ length ks → Went (set marks a 1) a start (walk K ks es a start marks)
   unfolding walk
   walk-went marks l =

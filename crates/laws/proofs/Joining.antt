@@ -1,5 +1,5 @@
--- Two vertices whose edge is the only one at both ends: where the first anchor's walks come to either, they stand side by side in
--- its piece, or at its two ends. Assumes nothing.
+-- How a walk ends by two vertices whose edge is the only one at both ends, of which one is visited, and how a walk that closes a
+-- cycle comes back to its anchor. Assumes nothing.
 use mathlib.Core.Path.{_≡_, refl, sym, ap, _∙_}
 use mathlib.Core.Bool.{true, not, _&&_, false≢true}
 use mathlib.Core.Logic.{_⊎_, inl, inr, ⊎-elim}

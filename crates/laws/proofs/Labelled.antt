@@ -1,4 +1,4 @@
--- Each label of a run with the piece that it spells: what its windows, its letters and its length are. Assumes nothing.
+-- Each label of a run with the piece that it spells: its text, its length and its windows. Assumes nothing.
 use mathlib.Core.Path.{_≡_, ap, _∙_}
 use mathlib.Core.Bool.{true, false, _||_}
 use mathlib.Core.Logic.{_⊎_, inl, inr, ⊎-elim}
@@ -27,7 +27,7 @@ use Rattle.laws.proofs.Tours.{taken-marked, tour-toured}
 use Rattle.laws.proofs.Runs.{run-tour}
 use Rattle.laws.proofs.Windows.{windows-turned}
 use Rattle.laws.proofs.Readings.{Spelt, taken-spelt, taken-label, reading-length, reading-windows}
-use Rattle.laws.proofs.Plain.{plain-append, plain-codes, plain-letters, plain-turned, plain-bases, lesser-cases, lesser-length, lesser-plain}
+use Rattle.laws.proofs.Plain.{plain-append, plain-codes, plain-letters, plain-turned, plain-bases, lesser-cases, lesser-length}
 
 -- Two lists whose elements are related, one by one.
 pub data Paired {A B : Type 0} (R : A → B → Type 0) : List A → List B → Type 0 where
@@ -104,9 +104,11 @@ module _ (K : ℕ) (ks : List ℕ) (es : List Ends) where
       small : getD ks (p .anchor) 0 < 4 ^ K
       small = key-at K ks fit (p .anchor) (g .stored-one) .below
 
+      -- The label is the smaller strand of its piece's text.
       pub label-text : l ≡ lesser (reading K ks p)
       label-text = taken-label K ks es fit known (g .taken) (g .stored-one)
 
+      -- The text's letters are A, C, G and T, and its windows the piece's k-mers.
       pub reading-plain : Plain (reading K ks p)
       unfolding reading
       reading-plain =
@@ -118,11 +120,7 @@ module _ (K : ℕ) (ks : List ℕ) (es : List Ends) where
       pub text-windows : windowsOf K (reading K ks p) ≡ readKmers K ks p
       text-windows = reading-windows K ks p small one spelt
 
-      -- All letters of a label are A, C, G or T.
-      pub label-plain : Plain l
-      label-plain = rw label-text (lesser-plain (reading K ks p) reading-plain)
-
-      -- It has K of them, and one for each base that its walks appended.
+      -- The label has K letters, and one for each base that its walks appended.
       pub label-length : length l ≡ length (p .front) + (K + length (p .back))
       label-length = ap length label-text ∙ lesser-length (reading K ks p) ∙ reading-length K ks p small
 

@@ -1,6 +1,6 @@
 -- The marks after a walk: one more at each place that it came to, none of which was marked. Assumes nothing.
 use mathlib.Core.Path.{_≡_, refl, sym, ap, _∙_}
-use mathlib.Core.Bool.{true, false, cond}
+use mathlib.Core.Bool.{false, cond}
 use mathlib.Core.Logic.{⊎-elim}
 use mathlib.Core.List.{List}
 use Prim.Native.Nat.{ℕ, _+_, _≤_, _<_}
@@ -73,13 +73,7 @@ module _ (K : ℕ) (ks : List ℕ) (es : List Ends) (a : ℕ) (start : Side) whe
         counted = λ i. omega (arith, r .counted i, set-adds marks u i lu z);
       }
 
-  -- A walk never comes to a vertex that is visited.
-  pub trail-fresh : {marks after : List ℕ} {v : ℕ} {s : Side} {ps : List Place} {st : Step} → Trail K ks es a start marks v s ps after st
-      → length marks ≡ length ks → Bits marks → (i : ℕ) → visited marks i ≡ true → occ i ps ≡ 0
-  trail-fresh {marks} t l b i h =
-      let r = trail-marked t l b in omega (arith, r .bits i, r .counted i, eqb-true (getD marks i 0) 1 h)
-
-  -- It comes to keys only.
+  -- A walk comes to keys only.
   pub trail-below : {marks after : List ℕ} {v : ℕ} {s : Side} {ps : List Place} {st : Step} → Trail K ks es a start marks v s ps after st
       → (i : ℕ) → length ks ≤ i → occ i ps ≡ 0
   unfolding occ

@@ -113,10 +113,8 @@ module _ {κ : Kind} {K : ℕ} {ls : List (List ℕ)} {n : ℕ} {keys counts : L
       → (w : ℕ) (r : Side) → Leads K ks es w r u s → (w ≡ v) × (r ≡ t)
   only u s v t hu hv o nb w r l =
       let hw = leads-lt l in
-      let b = edge es w r in
       let hb : edge es w r < 4 = omega (arith, known w r hw, eqb-false (edge es w r) 5 (l .some), eqb-false (edge es w r) 4 (l .single)) in
       let oe = other-end K ks fits w r (edge es w r) hw hb (l .found) in
-      let c = oe .0 in
       let hc = oe .1 in
       let j : Joins K ks w r (edge es w r) u s (oe .0) = rw (l .vertex, l .side) at (oe .2) in
       let loop : w ≡ u → r ≡ opposite s → ⊥ =

@@ -50,6 +50,7 @@ tally-reverse x f (y ∷ s) =
 -- ---- k-mers
 
 module _ (K : ℕ) where
+  -- Every number is that of a k-mer.
   abbrev pub Small : List ℕ → Type 0
   Small [] = Unit {0}
   Small (x ∷ xs) = (x < 4 ^ K) × Small xs
@@ -67,6 +68,7 @@ module _ (K : ℕ) where
   canon-turned (x ∷ xs) h = ap₂ (λ (y : ℕ) (ys : List ℕ). y ∷ ys) (canon-rc K x (h .0)) (canon-turned xs (h .1))
 
 module _ (K : ℕ) (ks : List ℕ) (fit : fitFrom K 0 ks ≡ true) where
+  -- The keys of a walk's places.
   abbrev pub keysAt : List Place → List ℕ
   keysAt ps = map (λ (p : Place). getD ks (p .vertex) 0) ps
 
@@ -87,7 +89,7 @@ module _ (K : ℕ) (ks : List ℕ) (fit : fitFrom K 0 ks ≡ true) where
   kmers-small [] i = tt
   kmers-small (p ∷ ps) i = (seen-lt (p .vertex) (p .exit) (i .0), kmers-small ps (i .1))
 
-  -- The keys of places are the keys of their vertices.
+  -- Two keys are the same where their vertices are.
   key-test : (u v : ℕ) → u < length ks → v < length ks → eqb (getD ks u 0) (getD ks v 0) ≡ eqb u v
   key-test u v hu hv =
       ⊎-elim (λ e. eq-eqb _ _ (ap (λ (i : ℕ). getD ks i 0) (eqb-true u v e)) ∙ sym e)

@@ -87,10 +87,6 @@ pub lesser-length : (s : List ℕ) → length (lesser s) ≡ length s
 unfolding lesser
 lesser-length s = choose (λ (t : List ℕ). length t ≡ length s) (before (reverseComplement s) s) (λ _. length-reverseComplement s) (λ _. refl)
 
-pub lesser-plain : (s : List ℕ) → Plain s → Plain (lesser s)
-unfolding lesser
-lesser-plain s h = choose Plain (before (reverseComplement s) s) (λ _. plain-turned s h) (λ _. h)
-
 -- Its reverse complement does not stand before it.
 pub lesser-least : (s : List ℕ) → Plain s → before (reverseComplement (lesser s)) (lesser s) ≡ false
 unfolding lesser

@@ -69,7 +69,6 @@ module _ (K : ℕ) (ks : List ℕ) (p : Piece) (small : getD ks (p .anchor) 0 < 
   pub reading-length : length (reading K ks p) ≡ length (p .front) + (K + length (p .back))
   unfolding reading
   reading-length =
-      let f = appended (p .front) in
       omega (
         arith,
         length-append (reverseComplement (appended (p .front))) (letters K x ++ appended (p .back)),

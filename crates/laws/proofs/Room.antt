@@ -97,7 +97,6 @@ module _ (K : ℕ) (ks : List ℕ) (es : List Ends) (one : 1 ≤ K) (fit : fitFr
   tour-room (takes {a = a} {marks = marks} {after = after} {ls = ls} {back = back} {front = front} {l = l} t q k) h =
       let r = tour-toured K ks es t (omega arith) in
       let f = or-first (visited marks a) (isolated es a) q in
-      let m = suc (length front + length back) in
       let sum : total after ≡ total marks + suc (length front + length back) = taken-total K ks es k h (r .long) (r .bits) f in
       omega (
         arith,

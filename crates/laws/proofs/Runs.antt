@@ -2,11 +2,9 @@
 use mathlib.Core.Path.{_≡_, refl, sym, ap, _∙_, subst}
 use mathlib.Core.Bool.{Bool, true, false, _||_}
 use mathlib.Core.List.{List, [], _∷_, _++_, map}
-use Prim.Native.Nat.{ℕ, zero, suc, _≤_, _<_}
+use Prim.Native.Nat.{ℕ, zero, suc, _≤_}
 use native.Mathlib.Omega.{arith}
 use lib.ListN.{length, getD, set, length-set}
-use borrow.Author.Tests.{eq-eqb}
-use Rattle.lemmas.proofs.Tests.{choose, or-first}
 use Rattle.dna.specs.Letters.{letterOf, reverseComplement}
 use Rattle.kmer.specs.Kmer.{rc, letters}
 use Rattle.state.specs.declared.Side.the-variants.{Front, Back}
@@ -15,7 +13,7 @@ use Rattle.graph.specs.Labels.{Run, lesser, labelOf, extract, run}
 use Rattle.laws.specs.Trails.{Place}
 use Rattle.laws.specs.Tours.{Piece, inPieces, Taken, Taken.round, Taken.straight, Tour, Tour.none, Tour.passes, Tour.takes}
 use Rattle.laws.proofs.Fuel.{Went, walk-went, trail-long}
-use Rattle.laws.proofs.Tours.{taken-marked, Toured, tour-toured}
+use Rattle.laws.proofs.Tours.{Toured, tour-toured}
 
 module _ (K : ℕ) (ks : List ℕ) (es : List Ends) where
   -- What one anchor comes to.
@@ -94,25 +92,10 @@ module _ (K : ℕ) (ks : List ℕ) (es : List Ends) where
   run-tour zero h = record { pieces = []; tour = none }
   run-tour (suc a) h = run-next a h (run-tour a (omega arith))
 
-  -- The marks of the run: as many as there are keys, each how often its vertex stands in the pieces, which is 0 or 1, and 1 where
-  -- the vertex is not isolated.
+  -- The marks of the run: as many as there are keys, each how often its vertex stands in the pieces, which is 0 or 1, and 1 for
+  -- each of these anchors that is not isolated.
   pub run-toured : (a : ℕ) (h : a ≤ length ks) → Toured K ks es a (run K ks es a .marks) (run-tour a h .pieces)
   run-toured a h = tour-toured K ks es (run-tour a h .tour) h
 
   pub run-at-most-once : (a : ℕ) (h : a ≤ length ks) (v : ℕ) → inPieces v (run-tour a h .pieces) ≤ 1
   run-at-most-once a h v = let r = run-toured a h in omega (arith, r .bits v, r .counted v)
-
-  -- One anchor more sets marks from 0 to 1 and none back.
-  pub run-grows : (a : ℕ) → suc a ≤ length ks → (v : ℕ) → getD (run K ks es a .marks) v 0 ≤ getD (run K ks es (suc a) .marks) v 0
-  unfolding run
-  run-grows a h v =
-      let r = run K ks es a in
-      let t = run-toured a (omega arith) in
-      choose (λ (q : Run). getD (r .marks) v 0 ≤ getD (q .marks) v 0) (visited (r .marks) a || isolated es a) (λ _. omega arith)
-      (λ q.
-      let m = taken-marked K ks es (extracted r a (t .long) .taken) h (t .long) (t .bits) (or-first (visited (r .marks) a) (isolated es a) q) in
-      omega (arith, m .counted v))
-
-  -- After the last anchor every vertex that is not isolated is visited.
-  pub run-all : (v : ℕ) → v < length ks → isolated es v ≡ false → visited (run K ks es (length ks) .marks) v ≡ true
-  run-all v l i = eq-eqb _ 1 (run-toured (length ks) (omega arith) .passed v l i)

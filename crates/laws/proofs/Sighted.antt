@@ -1,4 +1,5 @@
--- The sightings of a label: what holds of each of them, and how often a counter is sighted. Assumes nothing.
+-- The sightings of a label: what holds of each of them, and how often a counter is sighted; and that a label shows its windows.
+-- Assumes nothing.
 use mathlib.Core.Path.{_≡_, refl, _∙_}
 use mathlib.Core.Bool.{Bool, true, false, cond, _&&_, or-true}
 use mathlib.Core.Logic.{⊎-elim}

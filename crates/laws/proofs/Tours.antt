@@ -1,4 +1,4 @@
--- The run of all anchors is a tour, which visits no vertex twice and every vertex that is not isolated. Assumes nothing.
+-- A tour of the anchors visits no vertex twice, and each anchor that it has passed unless that is isolated. Assumes nothing.
 use mathlib.Core.Path.{_≡_, refl, sym, ap, _∙_}
 use mathlib.Core.Bool.{Bool, true, false, _||_}
 use mathlib.Core.Logic.{_⊎_, inl, inr, ⊎-elim}

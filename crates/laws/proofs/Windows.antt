@@ -106,7 +106,6 @@ module _ (K : ℕ) where
     windows-turned zero t l h = refl
     windows-turned (suc m) [] l h = absurd (omega arith)
     windows-turned (suc m) (b ∷ t) l h =
-        let whole = b ∷ t in
         let first = take K (b ∷ t) in
         let rest = drop K (b ∷ t) in
         let nf : length (take K (b ∷ t)) ≡ K = length-take-le K (b ∷ t) (omega arith) in

@@ -65,8 +65,3 @@ module _ (K : ℕ) (ks : List ℕ) (es : List Ends) where
     takes : {a : ℕ} {marks after : List ℕ} {ps : List Piece} {ls : List (List ℕ)} {back front : List Place} {l : List ℕ} → Tour a marks ps ls
         → (visited marks a || isolated es a) ≡ false → Taken marks (record { anchor = a; back = back; front = front }) after l
         → Tour (suc a) after (ps ++ (record { anchor = a; back = back; front = front } ∷ [])) (ls ++ (l ∷ []))
-
--- Opens this file's definitions to a proof that computes.
-unfoldable pub openTours : Unit {0}
-unfolding inPiece inPieces reading
-openTours = tt

@@ -34,8 +34,3 @@ module _ (K : ℕ) (ks : List ℕ) (es : List Ends) (a : ℕ) (start : Side) whe
     ends : {marks : List ℕ} {v : ℕ} {s : Side} {st : Step} → step K ks es a start marks v s ≡ st → isNext st ≡ false → Trail marks v s [] marks st
     goes : {marks after : List ℕ} {v u b : ℕ} {s t : Side} {ps : List Place} {st : Step} → step K ks es a start marks v s ≡ Next u t b
         → Trail (set marks u 1) u t ps after st → Trail marks v s (record { vertex = u; exit = t; base = b } ∷ ps) after st
-
--- Opens this file's definitions to a proof that computes.
-unfoldable pub openTrails : Unit {0}
-unfolding occ
-openTrails = tt

@@ -1,4 +1,4 @@
--- Numbers: order, quotients and remainders, powers of two. Assumes nothing.
+-- The two cases of a test and of an order; quotients and remainders. Assumes nothing.
 use mathlib.Core.Path.{_≡_, refl, sym, ap, _∙_}
 use mathlib.Core.Bool.{Bool, true, false}
 use mathlib.Core.Logic.{_⊎_, inl, inr, ⊎-elim}
@@ -16,7 +16,7 @@ true-or-false false = inr refl
 pub lt-or-ge : (a b : ℕ) → (a < b) ⊎ (b ≤ a)
 lt-or-ge a b = ⊎-elim (λ t. inl (ltb-true a b t)) (λ t. inr (ltb-false a b t)) (true-or-false (ltb a b))
 
--- Two tests of which each holds where the other does.
+-- Two orders of which each holds where the other does.
 pub same-test : (a b x y : ℕ) → (a < b → x < y) → (b ≤ a → y ≤ x) → ltb a b ≡ ltb x y
 same-test a b x y f g =
     ⊎-elim (λ l. lt-ltb a b l ∙ sym (lt-ltb x y (f l))) (λ l. le-ltb a b l ∙ sym (le-ltb x y (g l))) (lt-or-ge a b)

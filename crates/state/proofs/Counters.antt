@@ -1,9 +1,10 @@
--- Counters of any width from any bit on: raising one gives the smaller of its top and one more and leaves the others alone.
--- Assumes nothing.
+-- Counters of any width from any bit on: raising one gives the smaller of its top and one more, leaves the others alone and sets no
+-- bit past the last; the order of raising does not matter. Assumes nothing.
 use mathlib.Core.Path.{_≡_, refl, sym, ap, _∙_}
 use mathlib.Core.Bool.{Bool, true, false, cond}
 use Prim.Native.Nat.{ℕ, suc, _+_, _-_, _*_, _/_, _%_, _^_, _≤_, _<_, min}
-use native.Mathlib.Nat.{zero-div, zero-mod, add-zero, mul-add, mul-suc, mod-lt, div-eq-of-lt, add-mul-div-left, add-mul-mod-self-left, div-div-eq-div-mul, add-div-right, div-add-mod'}
+use native.Mathlib.Nat.{zero-div, zero-mod, add-zero, mul-add, mul-suc, mod-lt, div-eq-of-lt, div-div-eq-div-mul}
+use native.Mathlib.Nat.{add-mul-div-left, add-mul-mod-self-left, add-div-right, div-add-mod'}
 use native.Mathlib.Omega.{arith}
 use lib.Arith.{digits-mod, digits-div}
 use lib.Pow.{pow-add, pow-pos}
@@ -26,7 +27,7 @@ unit-later κ i m =
 no-carry : (q B : ℕ) → suc (q % B) < B → q + 1 ≡ q / B * B + suc (q % B)
 no-carry q B h = omega (arith, div-add-mod' q B)
 
-pub count-lt : (κ : Kind) (w j : ℕ) → count κ w j < 2 ^ κ .width
+count-lt : (κ : Kind) (w j : ℕ) → count κ w j < 2 ^ κ .width
 unfolding count
 count-lt κ w j = mod-lt (w / unit κ j) (pow-pos (κ .width))
 
@@ -62,6 +63,7 @@ module _ (κ : Kind) (w j : ℕ) (h : count κ w j < top κ) where
       rw (add-div-right w (unit-pos κ j), no-carry (w / U) B below-top) (digits-div (w / U / B) below-top) in
       rw (unit-later κ j m, parts (w + U), parts w, same)
 
+-- A unit of a later counter leaves an earlier one alone.
 plus-below : (κ : Kind) (w i m : ℕ) → count κ (w + unit κ (i + suc m)) i ≡ count κ w i
 unfolding count
 plus-below κ w i m =
@@ -75,7 +77,7 @@ raise-full κ w j h =
     let e : count κ w j ≡ top κ = omega (arith, count-le κ w j) in
     simp (eq-eqb (count κ w j) (top κ) e)
 
--- Another is given one unit.
+-- A counter below its top is given one unit.
 pub raise-more : (κ : Kind) (w j : ℕ) → count κ w j < top κ → raise κ w j ≡ w + unit κ j
 unfolding raise
 raise-more κ w j h = simp (ne-eqb (count κ w j) (top κ) (λ e. omega arith))

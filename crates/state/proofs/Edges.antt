@@ -1,5 +1,5 @@
 -- What `edgeAt` tells of a side: E for no retained edge, the base for one, N for more; so that every other question about a side
--- can be asked of it. Assumes nothing.
+-- can be asked of it. At cutoff 0 it is N, and a cutoff above the top isolates. Assumes nothing.
 use mathlib.Core.Path.{_≡_, refl, sym, _∙_}
 use mathlib.Core.Logic.{_↔_}
 use mathlib.Core.Bool.{true, _&&_}
@@ -14,7 +14,7 @@ use Rattle.state.specs.Counted.{Kind, top, slotOf, count, retained, sing
 use Rattle.state.specs.Parts.{kept}
 use Rattle.state.specs.declared.Side.{Side}
 use Rattle.state.specs.declared.Side.the-variants.{Front, Back}
-use Rattle.state.proofs.Counters.{count-le, count-zero}
+use Rattle.state.proofs.Counters.{count-le}
 use Rattle.state.proofs.Retained.{total, retained-exactly, edges-kept, total-kept}
 
 -- What holds of no base, of one below 4 and of more holds of a list of such bases.
@@ -93,7 +93,7 @@ module _ (κ : Kind) (cutoff w : ℕ) (s : Side) where
       edge-by (λ n e. ltb 1 n ≡ eqb e 4) refl (λ e h. sym (ne-eqb e 4 (λ q. omega arith))) (λ n h. lt-ltb 1 n h)
 
   -- Where every counter is below the cutoff, the side has no edge.
-  pub edge-below : ((j : ℕ) → count κ w j < cutoff) → edgeAt κ cutoff w s ≡ 5
+  edge-below : ((j : ℕ) → count κ w j < cutoff) → edgeAt κ cutoff w s ≡ 5
   unfolding kept
   edge-below h =
       let off : (b : ℕ) → kept κ cutoff w s b ≡ 0 = λ b. simp (lt-leb cutoff (count κ w (slotOf s b)) (h (slotOf s b))) in
@@ -104,10 +104,6 @@ pub isolated-edges :
     (κ : Kind) (cutoff w : ℕ) → isIsolated κ cutoff w ≡ (eqb (edgeAt κ cutoff w Front) 5 && eqb (edgeAt κ cutoff w Back) 5)
 isolated-edges κ cutoff w = rw (empty-edge κ cutoff w Front, empty-edge κ cutoff w Back)
 
-isolated-below : (κ : Kind) (cutoff w : ℕ) → ((j : ℕ) → count κ w j < cutoff) → isIsolated κ cutoff w ≡ true
-isolated-below κ cutoff w h =
-    rw (isolated-edges κ cutoff w, edge-below κ cutoff w Front h, edge-below κ cutoff w Back h)
-
 -- Cutoff 0 gives N everywhere.
 pub cutoff-zero : (κ : Kind) (w : ℕ) (s : Side) → edgeAt κ 0 w s ≡ 4
 unfolding edgeAt retained single
@@ -115,8 +111,6 @@ cutoff-zero κ w s = simp leb·zero
 
 -- A cutoff above the top isolates everything.
 pub cutoff-above : (κ : Kind) (cutoff w : ℕ) → top κ < cutoff → isIsolated κ cutoff w ≡ true
-cutoff-above κ cutoff w h = isolated-below κ cutoff w (λ j. omega (arith, count-le κ w j))
-
--- Where nothing is counted yet, every positive cutoff isolates.
-pub fresh-isolated : (κ : Kind) (cutoff : ℕ) → 0 < cutoff → isIsolated κ cutoff 0 ≡ true
-fresh-isolated κ cutoff h = isolated-below κ cutoff 0 (λ j. omega (arith, count-zero κ j))
+cutoff-above κ cutoff w h =
+    let below : (j : ℕ) → count κ w j < cutoff = λ j. omega (arith, count-le κ w j) in
+    rw (isolated-edges κ cutoff w, edge-below κ cutoff w Front below, edge-below κ cutoff w Back below)

@@ -1,4 +1,5 @@
--- The retained bases of a side: exactly those whose count is at least the cutoff, each once. Assumes nothing.
+-- The retained bases of a side are exactly those whose count is at least the cutoff; their number and their sum are those of the four
+-- tests. Assumes nothing.
 use mathlib.Core.Path.{_≡_, refl}
 use mathlib.Core.Logic.{_↔_, ⊎-elim}
 use mathlib.Core.Bool.{Bool, true, false, cond}
@@ -77,13 +78,14 @@ module _ (κ : Kind) (cutoff w : ℕ) (s : Side) where
   retained-exactly x =
       (λ i. let r = listed 4 0 x i in (omega arith, r .2), λ h. lists 4 0 x (omega arith) (omega arith) (h .1))
 
-  -- Each of them stands there once.
+  -- Their number: each stands there once.
   pub edges-kept :
       edgeCount κ cutoff w s
       ≡ kept κ cutoff w s 0 + kept κ cutoff w s 1 + kept κ cutoff w s 2 + kept κ cutoff w s 3
   unfolding edgeCount
   edges-kept = omega (arith, measured length (λ _. 1) refl (λ x l. omega arith))
 
+  -- Their sum.
   pub total-kept :
       total (retained κ cutoff w s 4 0)
       ≡ kept κ cutoff w s 1 + 2 * kept κ cutoff w s 2 + 3 * kept κ cutoff w s 3

@@ -16,7 +16,7 @@ module _ (κ : Kind) (N w j : ℕ) (room : κ .width + (κ .first + κ .width * 
   abbrev pub cur : ℕ
   cur = bitAnd w ((top κ * unit κ j) % 2 ^ N) / unit κ j
 
-  pub cur-bits : cur ≡ count κ w j
+  cur-bits : cur ≡ count κ w j
   unfolding count
   cur-bits = masked N (κ .width) (κ .first + κ .width * j) w room fits
 

@@ -62,7 +62,7 @@ single [] = 5
 single (b ∷ []) = b
 single (b ∷ c ∷ r) = 4
 
--- The one retained edge of a side.
+-- The one edge that a side retains; E where it retains none, N where it retains more.
 unfoldable pub edgeAt : Kind → ℕ → ℕ → Side → ℕ
 edgeAt κ cutoff w s = single (retained κ cutoff w s 4 0)
 
@@ -90,7 +90,7 @@ frequencyCall κ w s b = cond (ltb b 4) (gives (count κ w (slotOf s b))) (refus
 abbrev pub addEdgeCall : Kind → ℕ → Side → ℕ → Answer ℕ
 addEdgeCall κ w s b = cond (ltb b 4) (gives (raise κ w (slotOf s b))) (refuses 10 [])
 
--- A neighbour counted on its side; E is a missing one and adds nothing.
+-- A neighbour counted on its side. E is a missing one and adds nothing; nor does N, which `updateCall` refuses.
 abbrev pub counted : Kind → ℕ → Side → ℕ → ℕ
 counted κ w s b = cond (ltb b 4) (raise κ w (slotOf s b)) w
 

@@ -16,7 +16,7 @@ kept κ cutoff w s b = cond (leb cutoff (count κ w (slotOf s b))) 1 0
 abbrev pub neighbourCall : Kind → ℕ → Side → ℕ → Answer ℕ
 neighbourCall κ w s b = cond (eqb b 4) (refuses 10 []) (gives (counted κ w s b))
 
--- How many edges a side retains, and the sum of their codes, which is the base where there is one.
+-- n is how many edges a side retains; where that is one, sum is its base.
 pub record Tallied (κ : Kind) (cutoff w : ℕ) (s : Side) (n sum : ℕ) : Type 0 where
   pub edges : n ≡ edgeCount κ cutoff w s
   pub codes : n ≡ 1 → sum ≡ edgeAt κ cutoff w s

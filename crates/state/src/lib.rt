@@ -14,7 +14,7 @@ pub enum Side {
     Back,
 }
 
-// The counters of a vertex's edges: four bits each, those of Front from bit 0 and those of Back from bit 16.
+// The counters of a vertex's edges: four bits each, A, C, G, T of Front from bit 0 and of Back from bit 16.
 pub struct EdgeFrequency {
     pub packed: u32,
 }
@@ -31,7 +31,7 @@ pub enum Frequency {
     NoBase,
 }
 
-// A side's four tests added up: how many bases are retained, and the sum of their codes, which is the base where it is one.
+// A side's four tests added up: how many bases are retained, and the sum of their codes, which is the base where there is one.
 struct Tally {
     edges: u32,
     codes: u32,
@@ -106,7 +106,7 @@ impl EdgeFrequency {
         Counting::Done(EdgeFrequency { packed })
     }
 
-    // A neighbour counted on its side; a missing one, which is E, adds nothing.
+    // A neighbour counted on its side; a missing one, which is E, adds nothing, and N is refused.
     fn with_neighbour(self, side: Side, edge: Base) -> Counting
         ensures { λ r. ⌜ countingAnswer r ≡ neighbourCall fourBits (self .packed) side (codeIn edge) ⌝ }
     {

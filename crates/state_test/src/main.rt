@@ -100,6 +100,7 @@ fn show(edges: EdgeFrequency) {
     ask(edges, 0xffffffff);
 }
 
+// A slot's base is one of A, C, G and T, so that the edge is never refused.
 fn raised_once(packed: u32, slot: u32) -> u32 {
     let edges = EdgeFrequency { packed };
     match edges.add_edge(side(slot / 4), base(slot % 4)) {

@@ -1,12 +1,11 @@
 -- Keys tested one by one: what is left to test, and how each test bears on the whole. Assumes nothing.
 use mathlib.Core.Path.{_≡_, refl, sym, ap, _∙_}
-use mathlib.Core.Bool.{Bool, true, false, cond, _&&_, _||_}
+use mathlib.Core.Bool.{Bool, true, false, cond, _&&_}
 use mathlib.Core.List.{List, [], _∷_}
-use Prim.Native.Nat.{ℕ, zero, suc, _+_, _-_, _*_, _/_, _^_, _≤_, _<_}
-use native.Mathlib.Numerals.{add-one}
+use Prim.Native.Nat.{ℕ, suc, _+_, _-_, _*_, _/_, _^_, _≤_, _<_}
 use native.Mathlib.Omega.{arith}
-use borrow.Author.Tests.{le-leb, ne-eqb}
-use lib.Dec.{ltb, leb, eqb}
+use borrow.Author.Tests.{le-leb, lt-leb}
+use lib.Dec.{ltb, leb}
 use lib.ListN.{length, drop}
 use lib.Seq.{drop-cons}
 use Rattle.dna.specs.Answer.{gives, refuses}
@@ -18,19 +17,6 @@ use Rattle.kmer.specs.declared.TestAnswer.the-variants as test
 use Rattle.kmer.proofs.Telling.{testIn, test-told}
 use Rattle.graph.specs.Table.{keysOf, fitFrom}
 use Rattle.table.specs.Search.{key}
-
--- What key i has to be at least: one more than the key before it.
-unfoldable pub leastAt : List ℕ → ℕ → ℕ
-leastAt keys zero = 0
-leastAt keys (suc i) = suc (key keys i)
-
-rises-is : (keys : List ℕ) (i : ℕ) → eqb i 0 || ltb (key keys (i - 1)) (key keys i) ≡ leb (leastAt keys i) (key keys i)
-unfolding leastAt
-rises-is keys zero = sym (le-leb 0 (key keys 0) (omega arith))
-rises-is keys (suc i) =
-    let e : suc i - 1 ≡ i = omega arith in
-    let f : eqb (suc i) 0 ≡ false = ne-eqb (suc i) 0 (λ q. omega arith) in
-    rw (f, e)
 
 -- A test that was refused is not passed.
 abbrev pub yes : TestAnswer → Bool
@@ -44,23 +30,22 @@ yes-is K x r k e = ap yes (test-told r ∙ ap testIn e) ∙ rw k (go (ltb x (4 ^
     go true = refl
     go false = refl
 
--- The first i keys have passed, and the whole is as the rest is.
-pub record Passed (K n : ℕ) (keys : List ℕ) (i : ℕ) : Type 0 where
+-- The first i keys have passed, the next has to be at least some number, and the whole is as the rest is.
+pub record Passed (K n : ℕ) (keys : List ℕ) (least i : ℕ) : Type 0 where
   pub upto : i ≤ n
-  pub rest : fitFrom K 0 (keysOf n keys) ≡ fitFrom K (leastAt keys i) (keysOf (n - i) (drop (2 * i) keys))
+  pub rest : fitFrom K 0 (keysOf n keys) ≡ fitFrom K least (keysOf (n - i) (drop (2 * i) keys))
 
 module _ (K n : ℕ) (keys : List ℕ) where
-  pub passed-none : Passed K n keys 0
-  unfolding leastAt
+  pub passed-none : Passed K n keys 0 0
   passed-none = let e : n - 0 ≡ n = omega arith in record { upto = omega arith; rest = rw e }
 
-  pub passed-all : {i : ℕ} → Passed K n keys i → n ≤ i → true ≡ fitFrom K 0 (keysOf n keys)
+  pub passed-all : {least i : ℕ} → Passed K n keys least i → n ≤ i → true ≡ fitFrom K 0 (keysOf n keys)
   unfolding fitFrom keysOf
-  passed-all {i} p l =
+  passed-all {least} {i} p l =
       let e : n - i ≡ 0 = omega arith in
       sym (p .rest ∙ rw e)
 
-  module _ {i : ℕ} (p : Passed K n keys i) (h : i < n) (l : n ≤ length keys / 2) where
+  module _ {least i : ℕ} (p : Passed K n keys least i) (h : i < n) (l : n ≤ length keys / 2) where
     first : keysOf (n - i) (drop (2 * i) keys) ≡ key keys i ∷ keysOf (n - (i + 1)) (drop (2 * (i + 1)) keys)
     unfolding keysOf
     first =
@@ -72,22 +57,21 @@ module _ (K n : ℕ) (keys : List ℕ) where
         rw (a, d, e, q, s)
 
     tests : fitFrom K 0 (keysOf n keys)
-        ≡ (eqb i 0 || ltb (key keys (i - 1)) (key keys i)) && (ltb (key keys i) (4 ^ K) && isCanon K (key keys i))
+        ≡ leb least (key keys i) && (ltb (key keys i) (4 ^ K) && isCanon K (key keys i))
         && fitFrom K (suc (key keys i)) (keysOf (n - (i + 1)) (drop (2 * (i + 1)) keys))
     unfolding fitFrom
-    tests = p .rest ∙ rw (first, rises-is keys i) (and (leb (leastAt keys i) (key keys i)) (ltb (key keys i) (4 ^ K)) _ _)
+    tests = p .rest ∙ rw first (and (leb least (key keys i)) (ltb (key keys i) (4 ^ K)) _ _)
       where
         and : (a b c d : Bool) → a && b && c && d ≡ a && (b && c) && d
         and true b c d = refl
         and false b c d = refl
 
-    pub not-above : false ≡ eqb i 0 || ltb (key keys (i - 1)) (key keys i) → false ≡ fitFrom K 0 (keysOf n keys)
-    not-above e = sym (tests ∙ rw (sym e))
+    pub not-above : key keys i < least → false ≡ fitFrom K 0 (keysOf n keys)
+    not-above a = sym (tests ∙ rw (lt-leb least (key keys i) a))
 
-    module _ (a : true ≡ eqb i 0 || ltb (key keys (i - 1)) (key keys i)) where
+    module _ (a : least ≤ key keys i) where
       pub no-key : false ≡ ltb (key keys i) (4 ^ K) && isCanon K (key keys i) → false ≡ fitFrom K 0 (keysOf n keys)
-      no-key e = sym (tests ∙ rw (sym a, sym e))
+      no-key e = sym (tests ∙ rw (le-leb least (key keys i) a, sym e))
 
-      pub passed-more : true ≡ ltb (key keys i) (4 ^ K) && isCanon K (key keys i) → Passed K n keys (i + 1)
-      unfolding leastAt
-      passed-more e = record { upto = omega arith; rest = tests ∙ rw (sym a, sym e, add-one i) }
+      pub passed-more : true ≡ ltb (key keys i) (4 ^ K) && isCanon K (key keys i) → Passed K n keys (suc (key keys i)) (i + 1)
+      passed-more e = record { upto = omega arith; rest = tests ∙ rw (le-leb least (key keys i) a, sym e) }

@@ -4,6 +4,9 @@ pub mod Searching
 pub mod Inserting
 pub mod Ranked
 pub mod Ascending
+pub mod Bounded
+pub mod Short
+pub mod BoundsIn
 pub mod Verdict
 pub mod Told
 pub mod Says

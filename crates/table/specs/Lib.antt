@@ -1,3 +1,4 @@
 pub mod Search
+pub mod Bounds
 pub mod Calls
 pub mod Join

@@ -1,32 +1,18 @@
 // Whether a table is fit.
 ghost use mathlib.Core.Path.{_≡_};
-ghost use mathlib.Core.Bool.{true, _&&_, _||_};
-ghost use Prim.Native.Nat.{_-_, _/_, _^_, _≤_, _<_};
-ghost use lib.Dec.{ltb, eqb};
+ghost use mathlib.Core.Bool.{true, _&&_};
+ghost use Prim.Native.Nat.{_/_, _^_, _≤_, _<_};
+ghost use lib.Dec.{ltb};
 ghost use lib.ListN.{length};
-ghost use Rattle.kmer.specs.Kmer.{okK, isCanon, rc};
+ghost use Rattle.kmer.specs.Kmer.{okK, joined, isCanon, rc};
 ghost use Rattle.kmer.specs.Says.{valueOf};
 ghost use Rattle.graph.specs.Table.{keysOf, fitFrom};
-ghost use Rattle.table.specs.Search.{key};
+ghost use Rattle.table.specs.Bounds.{boundOf, Bounds};
 ghost use Rattle.table.specs.Calls.{fitCall, fitAnswer};
 use super::FitAnswer;
 use super::capacity;
-use super::search;
 use kmer::Kmer;
 use kmer::TestAnswer;
-
-// Key i is the first, or above the one before it.
-fn rises(keys: &[u64], i: usize) -> bool
-    requires { ⌜ i < length (now keys) / 2 ⌝ }
-    ensures { λ r. ⌜ r ≡ eqb i 0 || ltb (key (now (keys .entry)) (i - 1)) (key (now (keys .entry)) i) ⌝ }
-{
-    if i == 0 {
-        return true;
-    }
-    let before = search::key_at(keys, i - 1);
-    let x = search::key_at(keys, i);
-    before.is_less(x)
-}
 
 // Four bases turned: their reverse complement.
 fn turned(byte: u8) -> u8
@@ -36,57 +22,135 @@ fn turned(byte: u8) -> u8
     !((pairs << 4) | (pairs >> 4))
 }
 
-// The first bases of a k-mer stand before those of its reverse complement, which are its last four turned: then it is canonical.
-// Most k-mers that are canonical are told so, and those that are not are not.
-fn leads(k: usize, x: Kmer) -> bool
+// Four bases turned and As behind them, as a k-mer; 0 where K is below 5.
+fn bound(k: usize, byte: u8) -> Kmer
     requires { ⌜ okK k ≡ true ⌝ }
-    ensures { λ r. ⌜ (r ≡ true → (valueOf x < 4 ^ k) × (isCanon k (valueOf x) ≡ true)) ⌝ }
+    ensures { λ r. ⌜ valueOf r ≡ boundOf k byte ⌝ }
 {
-    let first = turned((x.words[0] & 0xff) as u8) as u64;
-    if k <= 32 {
-        if k < 5 {
-            return false;
-        }
-        if 0 < x.words[1] {
-            return false;
-        }
-        return x.words[0] < first << (2 * k - 8);
+    if k < 5 {
+        return Kmer::zero();
     }
+    let first = turned(byte) as u64;
     if k < 36 {
-        return x.words[1] < first >> (72 - 2 * k);
+        return Kmer {
+            words: [first << (2 * k - 8), first >> (72 - 2 * k)],
+        };
     }
-    x.words[1] < first << (2 * k - 72)
+    Kmer {
+        words: [0, first << (2 * k - 72)],
+    }
+}
+
+// The bounds of all last four bases, by their low and their high words.
+fn make_bounds(k: usize, lows: &mut [u64], highs: &mut [u64])
+    requires { ⌜ (okK k ≡ true) × (length (now lows) ≡ 256) × (length (now highs) ≡ 256) ⌝ }
+    ensures { λ _. ⌜ Bounds k (now (lows .exit)) (now (highs .exit)) ⌝ }
+{
+    let mut b = 0;
+    while b < 256 {
+        let least = bound(k, b as u8);
+        lows[b] = least.words[0];
+        highs[b] = least.words[1];
+        b += 1;
+    }
 }
 
 // A k-mer is below 4 to the K and canonical.
-fn is_key(k: usize, x: Kmer) -> bool
+fn is_key(k: usize, low: u64, high: u64) -> bool
     requires { ⌜ okK k ≡ true ⌝ }
-    ensures { λ r. ⌜ r ≡ ltb (valueOf x) (4 ^ k) && isCanon k (valueOf x) ⌝ }
+    ensures { λ r. ⌜ r ≡ ltb (joined low high) (4 ^ k) && isCanon k (joined low high) ⌝ }
 {
-    if leads(k, x) {
-        return true;
-    }
+    let x = Kmer { words: [low, high] };
     match x.is_canonical(k) {
         TestAnswer::Is(t) => t,
         TestAnswer::Refused(_) => false,
     }
 }
 
+// A number of two words is below another.
+fn below(low: u64, high: u64, other_low: u64, other_high: u64) -> bool
+    ensures { λ r. ⌜ r ≡ ltb (joined low high) (joined «other_low» «other_high») ⌝ }
+{
+    if high == other_high {
+        return low < other_low;
+    }
+    high < other_high
+}
+
+// Each key is above the one before it, and a key. Below the bound of its last four bases it begins before its reverse complement
+// does and is canonical: so most keys are told without their reverse complements.
+fn all_fit(k: usize, n: usize, keys: &[u64], lows: &[u64], highs: &[u64]) -> bool
+    requires { ⌜ (okK k ≡ true) × (0 < n) × (n ≤ length (now keys) / 2) × (length (now lows) ≡ 256) × (length (now highs) ≡ 256) × Bounds k (now lows) (now highs) ⌝ }
+    ensures { λ r. ⌜ r ≡ fitFrom k 0 (keysOf n (now (keys .entry))) ⌝ }
+{
+    let mut low = keys[0];
+    let mut high = keys[1];
+    if !is_key(k, low, high) {
+        return false;
+    }
+    let mut i = 1;
+    while i < n {
+        let l = keys[2 * i];
+        let h = keys[2 * i + 1];
+        if !below(low, high, l, h) {
+            return false;
+        }
+        let b = (l & 0xff) as usize;
+        if !below(l, h, lows[b], highs[b]) {
+            if !is_key(k, l, h) {
+                return false;
+            }
+        }
+        low = l;
+        high = h;
+        i += 1;
+    }
+    true
+}
+
+// The same where a k-mer stands in its low word: a key with a high word is too large.
+fn low_fit(k: usize, n: usize, keys: &[u64], lows: &[u64], highs: &[u64]) -> bool
+    requires { ⌜ (okK k ≡ true) × (k ≤ 32) × (0 < n) × (n ≤ length (now keys) / 2) × (length (now lows) ≡ 256) × Bounds k (now lows) (now highs) ⌝ }
+    ensures { λ r. ⌜ r ≡ fitFrom k 0 (keysOf n (now (keys .entry))) ⌝ }
+{
+    let mut low = keys[0];
+    if !is_key(k, low, keys[1]) {
+        return false;
+    }
+    let mut i = 1;
+    while i < n {
+        let l = keys[2 * i];
+        if 0 < keys[2 * i + 1] {
+            return false;
+        }
+        if l <= low {
+            return false;
+        }
+        if lows[(l & 0xff) as usize] <= l {
+            if !is_key(k, l, 0) {
+                return false;
+            }
+        }
+        low = l;
+        i += 1;
+    }
+    true
+}
+
 fn keys_fit(k: usize, n: usize, keys: &[u64]) -> bool
     requires { ⌜ (okK k ≡ true) × (n ≤ length (now keys) / 2) ⌝ }
     ensures { λ r. ⌜ r ≡ fitFrom k 0 (keysOf n (now (keys .entry))) ⌝ }
 {
-    let mut i = 0;
-    while i < n {
-        if !rises(keys, i) {
-            return false;
-        }
-        if !is_key(k, search::key_at(keys, i)) {
-            return false;
-        }
-        i += 1;
+    if n == 0 {
+        return true;
     }
-    true
+    let mut lows = [0u64; 256];
+    let mut highs = [0u64; 256];
+    make_bounds(k, &mut lows, &mut highs);
+    if k <= 32 {
+        return low_fit(k, n, keys, &lows, &highs);
+    }
+    all_fit(k, n, keys, &lows, &highs)
 }
 
 // K is tested first, then the room, then the keys.

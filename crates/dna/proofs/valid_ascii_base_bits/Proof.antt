@@ -1,6 +1,5 @@
 -- Both sides are the same shifts, and a mask of two bits is the remainder by 4. Assumes nothing.
 use Prim.Native.Nat.{_/_}
-use borrow.Author.Needs.{needs}
 use Rattle.dna.specs.Letters.{validBits}
 use lib.Bits.{bitXor, and-mask}
 use Rattle.dna.proofs.valid_ascii_base_bits.Statement.{statement}

@@ -32,7 +32,8 @@ returns-3 c =
     let a = c .before .before .before .before .before .before .before .before .before .args in
     let x = valueOf (a .self) in
     spells-all (a .k) x (a .out .now)
-    (passed (a .k) x 1 0 _ (c .before .before .before .before .before .before .before .verdict .ensures) (c .before .before .before .before .before .enum-told .given .1))
+    (passed (a .k) x 1 0 _ (c .before .before .before .before .before .before .before .verdict .ensures)
+    (c .before .before .before .before .before .enum-told .given .1))
     _ (c .before .before .before .before .if1 .left) (c .before .before .write .ensures)
 
 pub append-ascii-spec : {M : Type 1} → statement M

@@ -1,4 +1,4 @@
--- Each step of the code is a step of the swap network; what comes out is the complement's rest to 2 ^ 64 - 1. Assumes nothing.
+-- Each step of the code is a step of the swap network; what comes out and the reverse complement add up to 2 ^ 64 - 1. Assumes nothing.
 use mathlib.Core.Path.{_≡_, refl, ap, _∙_}
 use Prim.Native.Nat.{ℕ, _^_, _<_}
 use native.Mathlib.Omega.{arith}
