@@ -15,7 +15,7 @@ use Rattle.graph.proofs.Lookup.{Key}
 use Rattle.graph.proofs.Adding.{window-key}
 use Rattle.sorting.proofs.Ordered.{sort-length}
 use Rattle.keysort.specs.Rows.{Row, comesFirst, keyAt, rowAt, rows, hasRows, Sorts}
-use Rattle.keysort.proofs.Rows.{rows-at}
+use Rattle.keysort.proofs.Columns.{rows-at}
 use Rattle.adding.specs.Batch.{codeAt, newRows, sortedNew, Gathers, Grouped}
 use Rattle.adding.specs.Says.{Given, Rowed, Listed}
 use Rattle.adding.proofs.Each.{each-at, each-sort}

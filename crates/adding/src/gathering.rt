@@ -1,6 +1,6 @@
 // All windows of a label looked up in the table as it is.
 ghost use mathlib.Core.Path.{_≡_};
-ghost use Prim.Native.Nat.{_+_, _*_, _<_};
+ghost use Prim.Native.Nat.{_+_, _*_, _<_, _≤_};
 ghost use lib.ListN.{length, set};
 ghost use Rattle.kmer.specs.Says.{valueOf};
 ghost use Rattle.kmer.specs.Kmer.{low, high};
@@ -21,12 +21,27 @@ pub(crate) fn put_key(keys: &mut [u64], at: usize, x: Kmer)
     keys[2 * at + 1] = x.words[1];
 }
 
-// Of each window what is noted and the place of its k-mer; the k-mers and offsets of the new ones, and how many they are.
-pub(crate) fn gather(
+// How large a directory of n keys is worth its making for so many windows: none where the keys are many more.
+fn cells_for(n: usize, windows: usize) -> usize
+    requires { ⌜ windows ≤ 4096 ⌝ }
+    ensures { λ r. ⌜ r ≤ 4097 ⌝ }
+{
+    if 48 * windows < n {
+        return 0;
+    }
+    if windows < 512 {
+        return 1025;
+    }
+    4097
+}
+
+// Window by window, by a directory of whatever content.
+fn look_up(
     k: usize,
     label: &[u8],
     n: usize,
     keys: &[u64],
+    directory: &[u32],
     notes: &mut [u8],
     places: &mut [u32],
     new_keys: &mut [u64],
@@ -43,7 +58,7 @@ pub(crate) fn gather(
         let seen = windows::see(k, label, o);
         let code = windows::code_of(k, label, o, previous, seen);
         let x = seen.kmer;
-        match table::find(n, keys, x) {
+        match directory::find(k, n, keys, directory, x) {
             Found::At(i) => {
                 notes[o] = code;
                 places[o] = i as u32;
@@ -62,4 +77,62 @@ pub(crate) fn gather(
         }
     }
     new
+}
+
+// The directory is made first.
+fn look_up_by(
+    k: usize,
+    label: &[u8],
+    n: usize,
+    keys: &[u64],
+    directory: &mut [u32],
+    notes: &mut [u8],
+    places: &mut [u32],
+    new_keys: &mut [u64],
+    offsets: &mut [u32],
+) -> usize
+    requires { ⌜ Spare k (now label) n (now keys) (now notes) (now places) (now «new_keys») (now offsets) ⌝ }
+    ensures { λ r. ⌜ Gathers k (now (label .entry)) (keysOf n (now (keys .entry))) (windows k (now (label .entry))) r (now (notes .exit)) (now (places .exit)) (now («new_keys» .exit)) (now (offsets .exit)) ⌝ }
+{
+    directory::make(k, n, keys, directory);
+    look_up(
+        k,
+        label,
+        n,
+        keys,
+        directory,
+        notes,
+        places,
+        new_keys,
+        offsets,
+    )
+}
+
+// Of each window what is noted and the place of its k-mer; the k-mers and offsets of the new ones, and how many they are.
+pub(crate) fn gather(
+    k: usize,
+    label: &[u8],
+    n: usize,
+    keys: &[u64],
+    notes: &mut [u8],
+    places: &mut [u32],
+    new_keys: &mut [u64],
+    offsets: &mut [u32],
+) -> usize
+    requires { ⌜ Spare k (now label) n (now keys) (now notes) (now places) (now «new_keys») (now offsets) ⌝ }
+    ensures { λ r. ⌜ Gathers k (now (label .entry)) (keysOf n (now (keys .entry))) (windows k (now (label .entry))) r (now (notes .exit)) (now (places .exit)) (now («new_keys» .exit)) (now (offsets .exit)) ⌝ }
+{
+    let mut directory = [0u32; 4097];
+    let cells = cells_for(n, label.len() - k + 1);
+    look_up_by(
+        k,
+        label,
+        n,
+        keys,
+        &mut directory[..cells],
+        notes,
+        places,
+        new_keys,
+        offsets,
+    )
 }

@@ -49,7 +49,7 @@ fn make_vertices(
     ensures { λ r. ⌜ Looked k (now (label .entry)) (keysOf n (now (keys .entry))) (windows k (now (label .entry))) (now (notes .exit)) (now (places .exit)) × Grouped k (now (label .entry)) (keysOf n (now (keys .entry))) (sortedNew k (now (label .entry)) (keysOf n (now (keys .entry)))) r (now («new_keys» .exit)) (now («new_places» .exit)) (now («new_counts» .exit)) ⌝ }
 {
     let rows = gathering::gather(k, label, n, keys, notes, places, new_keys, offsets);
-    let _sorted = keysort::sort_rows(new_keys, offsets, rows);
+    let _sorted = keysort::sort_rows(k, new_keys, offsets, rows);
     counting::group(
         rows,
         notes,

@@ -134,7 +134,7 @@ fn often(k: usize, label: &[u8], times: usize) {
     show(&keys, &counts);
 }
 
-// A label added to a table made by hand, which may be none.
+// A label added to a table made by hand, which may be unfit.
 fn by_hand(k: usize, n: usize, first: u64, second: u64, label: &[u8]) {
     let mut keys = [first, 0, second, 0, FREE_KEY, FREE_KEY];
     let mut counts = [1, 2, FREE_COUNT];

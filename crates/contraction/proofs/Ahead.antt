@@ -1,4 +1,4 @@
--- The next label of the loop over all anchors: there is room for it, and it is written behind the others. Assumes nothing.
+-- The next label of the loop over all vertices: there is room for it, and it is written behind the others. Assumes nothing.
 use mathlib.Core.Path.{_≡_, sym, ap, _∙_}
 use mathlib.Core.List.{List, [], _∷_, _++_}
 use Prim.Native.Nat.{ℕ, _+_, _≤_, _<_}
@@ -15,7 +15,8 @@ use Rattle.contraction.specs.Says.{WritesLabel, startsOf, lengthsOf}
 use Rattle.contraction.specs.Trail.{labelFrom}
 use Rattle.contraction.specs.declared.Written.{Written}
 use Rattle.contraction.proofs.Listed.{Listed, standing}
-use Rattle.contraction.proofs.Appending.{end-to-end-snoc, length-starts, length-lengths, starts-snoc, lengths-snoc, over-pasted}
+use Rattle.contraction.proofs.Appending.{end-to-end-snoc, length-starts, length-lengths, starts-snoc, lengths-snoc}
+use Rattle.contraction.proofs.Placing.{over-pasted}
 use Rattle.contraction.proofs.Standing.{takes-here, label-here, place-taken}
 use Rattle.contraction.proofs.Running.{labelUnder, run-takes, extract-labels, run-grown, run-small}
 

@@ -1,4 +1,4 @@
--- The k-mer of an anchor, in its two words. Assumes nothing.
+-- The k-mer of an anchor, read from its two words: it is the vertex's key, and below 4 to the K. Assumes nothing.
 use mathlib.Core.Path.{_≡_}
 use mathlib.Core.List.{List}
 use Prim.Native.Nat.{ℕ, _^_, _<_}

@@ -1,4 +1,5 @@
--- Lists no two of whose elements have the same text, and lists put in order. Assumes nothing.
+-- What holds of each element of a list, and lists no two of whose elements have the same text: both stay so when the list is put
+-- in order. Assumes nothing.
 use mathlib.Core.Path.{_≡_, refl, sym, ap}
 use mathlib.Core.Bool.{Bool}
 use mathlib.Core.List.{List, [], _∷_, _++_, map}

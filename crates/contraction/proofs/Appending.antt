@@ -4,9 +4,7 @@ use mathlib.Core.List.{List, [], _∷_, _++_, map-append, append-assoc, append-n
 use Prim.Native.Nat.{ℕ, _+_}
 use native.Mathlib.Nat.{add-zero, zero-add}
 use native.Mathlib.Omega.{arith}
-use lib.Seq.{paste, take-append-seam, drop-append-add, drop-drop, take-length}
-use lib.ListN.{length, drop, length-append, length-map}
-use Rattle.dna.specs.Text.{over}
+use lib.ListN.{length, length-append, length-map}
 use Rattle.graph.specs.Contraction.{Entry, entries, endToEnd}
 use Rattle.contraction.specs.Says.{startsOf, lengthsOf}
 
@@ -40,15 +38,3 @@ module _ (ls : List (List ℕ)) where
 
   pub lengths-snoc : (l : List ℕ) → lengthsOf (entries 0 (ls ++ (l ∷ []))) ≡ lengthsOf (entries 0 ls) ++ (length l ∷ [])
   lengths-snoc l = rw (entries-snoc 0 ls l, map-append)
-
-module _ (text slice : List ℕ) where
-  -- A second text pasted behind the first.
-  pub over-pasted : (more : List ℕ) → paste (over text slice) (length text) more (length more) ≡ over (text ++ more) slice
-  over-pasted more =
-      rw (
-        take-append-seam text (drop (length text) slice),
-        take-length more,
-        drop-append-add text (drop (length text) slice) (length more),
-        drop-drop (length more) (length text) slice,
-        length-append text more,
-      )

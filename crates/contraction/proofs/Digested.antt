@@ -1,33 +1,32 @@
 -- The marks that a table's words of counters give: the table's ends, none visited, and the run over them. Assumes nothing.
-use mathlib.Core.Path.{_≡_, sym, ap, _∙_, subst}
+use mathlib.Core.Path.{_≡_, ap, _∙_}
 use mathlib.Core.List.{List, map}
-use Prim.Native.Nat.{ℕ, _≤_}
+use Prim.Native.Nat.{ℕ}
 use native.Mathlib.Omega.{arith}
 use lib.ListN.{length, take, length-map}
 use lib.Seq.{length-take-le}
 use Rattle.dna.specs.Text.{over}
 use Rattle.state.specs.Counted.{fourBits}
 use Rattle.graph.specs.Table.{keysOf, tableOf, fitFrom}
-use Rattle.graph.specs.Walks.{Ends, edge}
+use Rattle.graph.specs.Walks.{endsOf}
 use Rattle.graph.specs.Labels.{run}
 use Rattle.graph.specs.Contraction.{endsIn}
 use Rattle.marks.specs.Marks.{markOf, ends}
 use Rattle.marks.proofs.Digesting.{first-whole}
 use Rattle.marks.proofs.Digested.{marks-ends, marks-clean, known}
 use Rattle.contraction.specs.Ready.{Ready, runIn}
-use Rattle.contraction.specs.Says.{Table, Unvisited}
+use Rattle.contraction.specs.Says.{FitTable, Unvisited}
 
-module _ (K cutoff : ℕ) (keys counts ms₀ : List ℕ) (t : Table K keys counts ms₀) {ms : List ℕ}
+module _ (K cutoff : ℕ) (keys counts ms₀ : List ℕ) (t : FitTable K keys counts ms₀) {ms : List ℕ}
     (digested : ms ≡ over (map (markOf fourBits cutoff) (take (length ms₀) counts)) ms₀) where
-  d : ms ≡ map (markOf fourBits cutoff) (take (length ms₀) counts)
-  d = digested ∙ first-whole (markOf fourBits cutoff) counts ms₀ (t .counted)
+  marks-are : ms ≡ map (markOf fourBits cutoff) (take (length ms₀) counts)
+  marks-are = digested ∙ first-whole (markOf fourBits cutoff) counts ms₀ (t .counted)
 
   long : length ms ≡ length ms₀
-  long = ap length d ∙ length-map (take (length ms₀) counts) (markOf fourBits cutoff) ∙ length-take-le (length ms₀) counts (t .counted)
+  long = ap length marks-are ∙ length-map (take (length ms₀) counts) (markOf fourBits cutoff) ∙ length-take-le (length ms₀) counts (t .counted)
 
-  ends-are : ends ms ≡ endsIn fourBits cutoff (tableOf (length ms₀) keys counts)
-  unfolding endsIn
-  ends-are = ap ends d ∙ marks-ends cutoff (take (length ms₀) counts)
+  ends-are : ends ms ≡ map (endsOf fourBits cutoff) (take (length ms₀) counts)
+  ends-are = ap ends marks-are ∙ marks-ends cutoff (take (length ms₀) counts)
 
   pub ready : Ready K keys ms
   ready = record {
@@ -35,14 +34,13 @@ module _ (K cutoff : ℕ) (keys counts ms₀ : List ℕ) (t : Table K keys count
     room = omega (arith, long, t .room);
     few = omega (arith, long, t .few);
     fits = ap (λ (n : ℕ). fitFrom K 0 (keysOf n keys)) long ∙ t .fits;
-    known = λ v s.
-        subst (λ (es : List Ends). edge es v s ≤ 5) (sym (ap ends d ∙ marks-ends cutoff (take (length ms₀) counts)))
-        (known cutoff (take (length ms₀) counts) v s);
+    known = λ v s. rw ends-are (known cutoff (take (length ms₀) counts) v s);
   }
 
   pub clean : Unvisited ms
-  clean = rw d (marks-clean cutoff (take (length ms₀) counts))
+  clean = rw marks-are (marks-clean cutoff (take (length ms₀) counts))
 
   pub run-is : runIn K keys ms (length ms)
       ≡ run K (keysOf (length ms₀) keys) (endsIn fourBits cutoff (tableOf (length ms₀) keys counts)) (length ms₀)
+  unfolding endsIn
   run-is = rw (long, ends-are)

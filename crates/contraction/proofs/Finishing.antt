@@ -16,7 +16,7 @@ use Rattle.graph.specs.Labels.{Run, run}
 use Rattle.graph.specs.Contraction.{entries, sorted, endToEnd, endsIn, written, finish}
 use Rattle.marks.specs.Marks.{markOf, visits}
 use Rattle.contraction.specs.Ready.{Ready, runIn}
-use Rattle.contraction.specs.Says.{Contracts, Table, Surveys, Roomy, Lists, finishIn}
+use Rattle.contraction.specs.Says.{Contracts, FitTable, Surveys, Roomy, Lists, finishIn}
 use Rattle.contraction.specs.Trail.{trailIn, Trails}
 use Rattle.contraction.specs.declared.ContractAnswer.the-variants as answers
 use Rattle.dna.proofs.Overwriting.{over-all}
@@ -26,7 +26,7 @@ use Rattle.contraction.proofs.Still.{ready-still}
 use Rattle.contraction.proofs.Trailing.{run-same, trails-over}
 
 -- The marks are those that the table's words give, and all walks were followed over them.
-module _ (K cutoff : ℕ) (keys counts labels starts lengths ms₀ : List ℕ) (t : Table K keys counts ms₀) {ms : List ℕ}
+module _ (K cutoff : ℕ) (keys counts labels starts lengths ms₀ : List ℕ) (t : FitTable K keys counts ms₀) {ms : List ℕ}
     (d : ms ≡ over (map (markOf fourBits cutoff) (take (length ms₀) counts)) ms₀) {number bases : ℕ} {missing : Bool} {after : List ℕ}
     (s : Surveys K keys ms (length ms) number bases missing after) where
   abbrev all : Run
@@ -76,14 +76,14 @@ module _ (K cutoff : ℕ) (keys counts labels starts lengths ms₀ : List ℕ) (
     module _ {short : Bool} (q : short ≡ lacking) (k : short ≡ false) where
       room : Roomy K keys ms (length labels) (length starts) (length lengths)
       room =
-          let b : Bool = ltb (length labels) bases in
-          let c : Bool = ltb (length starts) number in
-          let d : Bool = ltb (length lengths) number in
-          let l = or-first (b || c) d (sym q ∙ k) in
+          let few-bytes : Bool = ltb (length labels) bases in
+          let few-starts : Bool = ltb (length starts) number in
+          let few-lengths : Bool = ltb (length lengths) number in
+          let l = or-first (few-bytes || few-starts) few-lengths (sym q ∙ k) in
           record {
-            bases-fit = omega (arith, ltb-false (length labels) bases (or-first b c l), s .total);
-            starts-fit = omega (arith, ltb-false (length starts) number (or-second b c l), s .number);
-            lengths-fit = omega (arith, ltb-false (length lengths) number (or-second (b || c) d (sym q ∙ k)), s .number);
+            bases-fit = omega (arith, ltb-false (length labels) bases (or-first few-bytes few-starts l), s .total);
+            starts-fit = omega (arith, ltb-false (length starts) number (or-second few-bytes few-starts l), s .number);
+            lengths-fit = omega (arith, ltb-false (length lengths) number (or-second (few-bytes || few-starts) few-lengths (sym q ∙ k)), s .number);
           }
 
       -- The walks have left the ends as they were.

@@ -13,7 +13,7 @@ use Rattle.graph.specs.Labels.{Run, run}
 use Rattle.graph.specs.Contraction.{Contracted, endToEnd, endsIn, written, finish}
 use Rattle.graph.proofs.Keys.{keys-length}
 use Rattle.laws.proofs.Runs.{run-toured}
-use Rattle.contraction.specs.Says.{Contracts, Table, finishIn}
+use Rattle.contraction.specs.Says.{Contracts, FitTable, finishIn}
 use Rattle.contraction.specs.declared.ContractAnswer.{ContractAnswer}
 use Rattle.dna.proofs.Overwriting.{over-first}
 
@@ -44,7 +44,7 @@ module _ (K cutoff n : ℕ) (keys counts labels starts lengths marks : List ℕ)
       (record { answer = refl; labels = refl; starts = refl; lengths = refl; marks = zeros })
       (record { answer = refl; labels = refl; starts = refl; lengths = refl; marks = over-first (r .marks) marks n l h }))
 
-  pub first-marks : Table K keys counts (take n marks) → {z : ContractAnswer} {labels′ starts′ lengths′ marks′ : List ℕ}
+  pub first-marks : FitTable K keys counts (take n marks) → {z : ContractAnswer} {labels′ starts′ lengths′ marks′ : List ℕ}
       → Contracts z labels′ starts′ lengths′ marks′
       (finishIn K cutoff (length (take n marks)) keys counts labels starts lengths (take n marks))
       → Contracts z labels′ starts′ lengths′ (marks′ ++ drop n marks) (finishIn K cutoff n keys counts labels starts lengths marks)

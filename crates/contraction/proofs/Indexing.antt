@@ -28,7 +28,7 @@ unfolding spots
 spots-of [] s l = refl
 spots-of (e ∷ es) s l = ap (λ (z : List Spot). spotOf e ∷ z) (spots-of es s l)
 
--- Where the second stands before the first, the tie is not asked.
+-- Where one of two stands before the other, the tie is not asked.
 first-of : (a b t : Bool) → (a ≡ false → b ≡ true) → (a || not b && t) ≡ a
 first-of true b t f = refl
 first-of false true t f = refl

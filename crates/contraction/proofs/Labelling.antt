@@ -1,11 +1,10 @@
--- An anchor's two walks, and the length of the label that they make. Assumes nothing.
+-- An anchor's label from its two walks: its length, whether a vertex was missing, and the marks that the walks leave. Assumes nothing.
 use mathlib.Core.Path.{_≡_, refl, sym, ap, _∙_}
 use mathlib.Core.Bool.{Bool, true, false, cond, _||_}
 use mathlib.Core.List.{List, _++_, map}
 use Prim.Native.Nat.{ℕ, _+_, _≤_}
 use native.Mathlib.Omega.{arith}
 use lib.ListN.{length, getD, length-append, length-map}
-use lib.Seq.{length-paste}
 use Rattle.dna.specs.Letters.{letterOf, reverseComplement}
 use Rattle.dna.proofs.Reversal.{length-reverseComplement}
 use Rattle.kmer.specs.Kmer.{rc, letters}
@@ -25,7 +24,7 @@ use Rattle.contraction.specs.declared.Extracted.{Extracted}
 use Rattle.contraction.specs.declared.Walked.{Walked}
 use Rattle.marks.proofs.Marking.{ends-length}
 use Rattle.contraction.proofs.Still.{walk-still}
-use Rattle.contraction.proofs.Placing.{Placed}
+use Rattle.contraction.proofs.Placing.{Placed, placed-length}
 
 spelt-length : (K x : ℕ) (w : Walk) → length (spelt K x w) ≡ K + length (w .bases)
 spelt-length K x w =
@@ -110,5 +109,4 @@ module _ {K : ℕ} {keys ms : List ℕ} (r : Ready K keys ms) (a : ℕ) {b : Wal
 -- The trail keeps its length.
 pub extracts-length : {K : ℕ} {keys ms : List ℕ} {a : ℕ} {r : Extracted} {after trail : List ℕ} {at : ℕ} {trail′ : List ℕ}
     → Extracts K keys ms a r after trail at trail′ → at + length (pieceIn K keys ms a) ≤ length trail → length trail′ ≡ length trail
-extracts-length {K} {keys} {ms} {a} {trail = trail} {at} x h =
-    ap length (x .walks) ∙ length-paste trail at (pieceIn K keys ms a) (length (pieceIn K keys ms a)) h (omega arith)
+extracts-length {K} {keys} {ms} {a} x h = placed-length {text = pieceIn K keys ms a} (record { room = h; cells = x .walks })

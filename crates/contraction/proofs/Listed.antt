@@ -1,4 +1,4 @@
--- The labels of the first anchors, written end to end with their index: the loop over all anchors. Assumes nothing.
+-- The labels of the first vertices, written end to end with their index: the loop over all vertices. Assumes nothing.
 use mathlib.Core.Path.{_≡_, refl, subst}
 use mathlib.Core.List.{List}
 use Prim.Native.Nat.{ℕ, _+_, _≤_, _<_}
@@ -13,7 +13,7 @@ use Rattle.contraction.specs.Trail.{trailIn, Trails}
 use Rattle.contraction.proofs.Standing.{Standing, skips-here, place-skipped}
 use Rattle.contraction.proofs.Running.{run-skips}
 
--- After the first a anchors; the next is read from a place of the trail on.
+-- The first a vertices are done; the next is read from a place of the trail on.
 pub record Listed (K : ℕ) (keys ms trail buffer starts lengths : List ℕ) (labels at from a : ℕ) (buffer′ starts′ lengths′ : List ℕ) : Type 0 where
   pub ready : Ready K keys ms
   pub trails : Trails K keys ms trail
@@ -45,7 +45,7 @@ listed-none K keys ms trail buffer starts lengths r t o = record {
 
 module _ {K : ℕ} {keys ms trail buffer starts lengths : List ℕ} {labels at from a : ℕ} {buffer′ starts′ lengths′ : List ℕ}
     (g : Listed K keys ms trail buffer starts lengths labels at from a buffer′ starts′ lengths′) where
-  -- Behind the last anchor.
+  -- Behind the last vertex.
   pub listed-all : length ms ≤ a →
       let total = length (endToEnd (runIn K keys ms (length ms) .labels)) in
       Writes K keys ms (length ms) labels total buffer buffer′ starts starts′ lengths lengths′

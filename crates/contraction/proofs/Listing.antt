@@ -37,7 +37,7 @@ module _ (K : ℕ) (keys ms : List ℕ) (rd : Ready K keys ms) {count : ℕ} {b�
   ls = runIn K keys ms (length ms) .labels
 
   abbrev es : List Entry
-  es = entries 0 (runIn K keys ms (length ms) .labels)
+  es = entries 0 ls
 
   named : Each (Named-entry b) es
   named =
@@ -60,7 +60,7 @@ module _ (K : ℕ) (keys ms : List ℕ) (rd : Ready K keys ms) {count : ℕ} {b�
 
   pub all-listed : {r : ℕ} {b₂ s₂ l₂ marks : List ℕ} → (r ≡ count) × (b₂ ≡ b) × Ordered b s l count s₂ l₂ → marks ≡ visits ms
       → (r ≡ length ls) × (marks ≡ visits ms)
-      × Lists (runIn K keys ms (length ms)) (sorted (entries 0 (runIn K keys ms (length ms) .labels))) b₀ b₂ s₀ s₂ l₀ l₂
+      × Lists (runIn K keys ms (length ms)) (sorted es) b₀ b₂ s₀ s₂ l₀ l₂
   all-listed q m =
       let o = rw (w .lists .starts-after, w .lists .lengths-after, number) at (q .2) in
       let i = index-is b (each-map (λ e n. n .reads) named) apart s₀ l₀ o in (

@@ -14,8 +14,7 @@ use Rattle.sorting.specs.Index.{Spot, textOf, comesFirst, entryAt, spots, sorte
 use Rattle.sorting.proofs.Ordered.{sort-length}
 use Rattle.sorting.proofs.Rows.{spots-length}
 use Rattle.contraction.specs.Says.{labelAt, Normal, Ordered}
-use Rattle.contraction.proofs.Apart.{Apart, Apart.alone, Apart.beside, each-at, apart-at, getD-map-append}
-use Rattle.contraction.proofs.Apart.{sort-each, sort-apart}
+use Rattle.contraction.proofs.Apart.{Apart, Apart.alone, Apart.beside, each-at, apart-at, getD-map-append, sort-each, sort-apart}
 
 -- ---- a part that is what it was
 
@@ -108,7 +107,7 @@ module _ {b₀ b s l : List ℕ} {n : ℕ} (N₀ : Normal b₀ s l n) (e : b ≡
 
 -- ---- no repeats
 
--- An entry is not the same as the one before it.
+-- An entry's label is not that of the one before it.
 pub no-repeat : {b s₀ l₀ : List ℕ} {n : ℕ} → Normal b s₀ l₀ n → {s l : List ℕ} {kept i : ℕ} → s ≡ s₀ → l ≡ l₀ → kept ≡ i → 1 ≤ i → i < n
     → labelAt b s l (kept - 1) ≡ labelAt b s l i → ⊥
 no-repeat {b} {s₀} {l₀} N {s} {l} {kept} {i} es el ek h k q =

@@ -2,14 +2,13 @@
 use mathlib.Core.Path.{_≡_, refl, sym, ap, _∙_}
 use mathlib.Core.Bool.{false}
 use mathlib.Core.List.{List, [], _∷_, map}
-use Prim.Native.Nat.{ℕ, zero, suc, _≤_}
-use native.Mathlib.Omega.{arith}
-use lib.ListN.{length, set, drop}
+use Prim.Native.Nat.{ℕ}
+use lib.ListN.{set, drop}
 use Rattle.lemmas.proofs.Tests.{never}
 use Rattle.state.specs.declared.Side.{Side}
 use Rattle.graph.specs.declared.Step.{Step}
-use Rattle.graph.specs.declared.Step.the-variants.{Next, Stop, Missing}
-use Rattle.graph.specs.Walks.{Ends, Walk, step, follow}
+use Rattle.graph.specs.declared.Step.the-variants.{Next}
+use Rattle.graph.specs.Walks.{Ends, Walk, step}
 use Rattle.laws.specs.Trails.{Place, isNext, Trail, Trail.ends, Trail.goes}
 use Rattle.laws.proofs.Fuel.{Went}
 
@@ -48,14 +47,3 @@ module _ {K : ℕ} {ks : List ℕ} {es : List Ends} {a : ℕ} {start : Side} whe
   pub went-ends : {marks : List ℕ} {v : ℕ} {s : Side} {w : Walk} {st : Step} → Went K ks es a start marks v s w
       → step K ks es a start marks v s ≡ st → isNext st ≡ false → (w .bases ≡ []) × (marks ≡ w .marks) × (st ≡ w .last)
   went-ends g f n = let o = trail-stops (g .trail) f n in (g .bases ∙ o .0, o .1, o .2)
-
--- It has no more bases than it may take steps.
-pub follow-few : (K : ℕ) (ks : List ℕ) (es : List Ends) (a : ℕ) (start : Side) (most : ℕ) (st : Step) (marks : List ℕ)
-    → length (follow K ks es a start most st marks .bases) ≤ most
-unfolding follow
-follow-few K ks es a start zero st marks = omega arith
-follow-few K ks es a start (suc most) (Next v s b) marks =
-    let m = set marks v 1 in
-    omega (arith, follow-few K ks es a start most (step K ks es a start m v s) m)
-follow-few K ks es a start (suc most) (Stop why) marks = omega arith
-follow-few K ks es a start (suc most) Missing marks = omega arith

@@ -1,19 +1,21 @@
--- A text pasted into a buffer, and a part of the buffer lent and put back. Assumes nothing.
+-- A part of a buffer lent and put back: what came back stands pasted in the buffer. Assumes nothing.
 use mathlib.Core.Path.{_≡_, sym, ap, _∙_}
 use mathlib.Core.Bool.{true}
-use mathlib.Core.List.{List, append-assoc, append-nil}
+use mathlib.Core.List.{List, append-assoc}
 use Prim.Native.Nat.{ℕ, _+_, _-_, _^_, _≤_, _<_}
 use native.Mathlib.Omega.{arith}
-use lib.ListN.{length, take, drop, length-drop}
-use lib.Seq.{paste, drop-drop, take-all, length-take-le, drop-length}
+use lib.ListN.{length, take, drop}
+use lib.Seq.{paste, drop-drop, take-all}
 use borrow.Rule.Slice.PartMut.{midOf, putMid, mid-len}
 use Rattle.dna.specs.Text.{over, part}
+use Rattle.dna.proofs.Overwriting.{over-all}
 use Rattle.kmer.specs.Kmer.{okK, letters}
 use Rattle.kmer.specs.Calls.{lettersCall}
 use Rattle.kmer.specs.Says.{Spells}
 use Rattle.kmer.specs.declared.LettersAnswer.{LettersAnswer}
 use Rattle.kmer.proofs.Spelling.{length-letters}
 use Rattle.kmer.proofs.Given.{letters-given}
+use Rattle.contraction.proofs.Copying.{part-length}
 
 -- A part of n cells that came back as a text of n cells.
 put-back : (buffer text : List ℕ) (at n : ℕ) → at + n ≤ length buffer → length text ≡ n
@@ -29,8 +31,7 @@ pub put-changed : (f : List ℕ → List ℕ) → ((x : List ℕ) → length (f 
 put-changed f same buffer text at n h e =
     let m : at + n - at ≡ n = omega arith in
     let q : text ≡ f (part buffer at n) = rw m at e in
-    let l : length (f (part buffer at n)) ≡ n =
-    same (part buffer at n) ∙ length-take-le n (drop at buffer) (omega (arith, length-drop at buffer)) in
+    let l : length (f (part buffer at n)) ≡ n = same (part buffer at n) ∙ part-length buffer at n h in
     ap (putMid at (at + n - at) buffer) q ∙ put-back buffer (f (part buffer at n)) at n h l
 
 -- A part written over by a text of its length.
@@ -38,8 +39,7 @@ put-over : (buffer given text : List ℕ) (at n : ℕ) → at + n ≤ length buf
     → given ≡ over text (midOf at (at + n - at) buffer) → putMid at (at + n - at) buffer given ≡ paste buffer at text n
 put-over buffer given text at n h e g =
     let m : at + n - at ≡ n = omega arith in
-    let l : length (part buffer at n) ≡ n = length-take-le n (drop at buffer) (omega (arith, length-drop at buffer)) in
-    let q : given ≡ text = rw m at g ∙ rw (e ∙ sym l, drop-length, append-nil) in
+    let q : given ≡ text = rw m at g ∙ over-all text (part buffer at n) (e ∙ sym (part-length buffer at n h)) in
     ap (putMid at (at + n - at) buffer) q ∙ put-back buffer text at n h e
 
 -- A k-mer's letters written into a part of as many cells.

@@ -9,13 +9,12 @@ use Rattle.dna.specs.Text.{over}
 use Rattle.dna.proofs.Overwriting.{length-over, over-one}
 use Rattle.graph.specs.Walks.{visited, isolated}
 use Rattle.marks.specs.Marks.{ends, visits}
-use Rattle.contraction.specs.Ready.{runIn}
 use Rattle.contraction.specs.Says.{Extracts}
 use Rattle.contraction.specs.Trail.{pieceIn, trailIn}
 use Rattle.contraction.specs.declared.Extracted.{Extracted}
-use Rattle.contraction.proofs.Appending.{over-pasted}
 use Rattle.marks.proofs.Marking.{ends-length}
-use Rattle.contraction.proofs.Surveying.{Surveying}
+use Rattle.contraction.proofs.Placing.{over-pasted}
+use Rattle.contraction.proofs.Surveying.{Surveying, skipped-is}
 use Rattle.contraction.proofs.Trailing.{trail-next, trail-short}
 
 -- The first a vertices are done; the trail has room for all.
@@ -42,10 +41,9 @@ module _ {K : ℕ} {keys ms : List ℕ} {a labels bases : ℕ} {missing : Bool} 
     -- What the next vertex gives, by whether it is skipped.
     trail-on : {t : Bool} → t ≡ (visited (visits marks) a || isolated (ends marks) a)
         → trailIn K keys ms (a + 1) ≡ trailIn K keys ms a ++ cond t (2 ∷ []) (pieceIn K keys marks a)
-    trail-on {t} e =
+    trail-on e =
         let s = g .surveys in
-        let q : t ≡ (visited (runIn K keys ms a .marks) a || isolated (ends ms) a) = e ∙ rw (s .ends-kept, s .visits-after) in
-        trail-next K keys ms a ∙ rw (ends-length ms marks (s .ends-kept), s .ends-kept, s .visits-after, ← q)
+        trail-next K keys ms a ∙ rw (ends-length ms marks (s .ends-kept), s .ends-kept, s .visits-after, skipped-is g e)
 
     module _ (e : true ≡ (visited (visits marks) a || isolated (ends marks) a)) where
       pub skip-fits : at < length trail

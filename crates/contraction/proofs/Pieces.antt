@@ -1,4 +1,5 @@
--- An anchor's piece of the trail, read back: it tells of an anchor, and gives the anchor's label. Assumes nothing.
+-- An anchor's piece of the trail: how long it is, and that, read back, it tells of an anchor and gives the anchor's label.
+-- Assumes nothing.
 use mathlib.Core.Path.{_≡_, refl, sym, ap, _∙_}
 use mathlib.Core.Bool.{Bool, true, false, cond}
 use mathlib.Core.Logic.{⊎-elim}
@@ -18,7 +19,7 @@ use Rattle.graph.specs.Walks.{Ends, Walk, closed}
 use Rattle.graph.specs.Labels.{labelOf}
 use Rattle.laws.proofs.Windows.{turn-append}
 use Rattle.contraction.specs.Trail.{pieceOf, letterCount, Piece, labelFrom, pieceLength}
-use Rattle.contraction.proofs.Reading.{letter-above, count-is, count-within, byte-behind, letters-before, text-behind}
+use Rattle.contraction.proofs.Reading.{letter-above, count-is, count-ended, byte-behind, letters-before, text-behind}
 
 -- A text begins with another.
 pub record Begins (text s : List ℕ) : Type 0 where
@@ -36,14 +37,27 @@ skips-byte false back front s g = ap (λ (l : List ℕ). eqb (getD l 0 0) 2) (g 
     go [] false = refl
     go (b ∷ bs) c = ne-eqb (letterOf b) 2 (λ e. omega (arith, letter-above b))
 
--- It is at least a byte.
+-- A byte for each base, and one behind each walk.
+module _ (back front : Walk) where
+  pub closed-long : closed (back .last) ≡ true → length (pieceOf back front) ≡ length (back .bases) + 1
+  closed-long c = rw c (omega (arith, length-append (map letterOf (back .bases)) (1 ∷ []), length-map (back .bases) letterOf))
+
+  pub open-long : closed (back .last) ≡ false → length (pieceOf back front) ≡ length (back .bases) + 1 + length (front .bases) + 1
+  open-long c =
+      rw c
+      (omega (
+        arith,
+        length-append (map letterOf (back .bases)) (0 ∷ (map letterOf (front .bases) ++ (0 ∷ []))),
+        length-append (map letterOf (front .bases)) (0 ∷ []),
+        length-map (back .bases) letterOf,
+        length-map (front .bases) letterOf,
+      ))
+
+-- What a vertex gives is at least a byte.
 pub given-some : (t : Bool) (back front : Walk) → 1 ≤ length (cond t (2 ∷ []) (pieceOf back front))
 given-some true back front = omega arith
-given-some false back front = go (closed (back .last))
-  where
-    go : (c : Bool) → 1 ≤ length (map letterOf (back .bases) ++ cond c (1 ∷ []) (0 ∷ (map letterOf (front .bases) ++ (0 ∷ []))))
-    go true = omega (arith, length-append (map letterOf (back .bases)) (1 ∷ []))
-    go false = omega (arith, length-append (map letterOf (back .bases)) (0 ∷ (map letterOf (front .bases) ++ (0 ∷ []))))
+given-some false back front =
+    ⊎-elim (λ c. omega (arith, closed-long back front c)) (λ c. omega (arith, open-long back front c)) (true-or-false (closed (back .last)))
 
 -- The other strand of a k-mer's reverse complement with a text behind it.
 turned : (K x : ℕ) → x < 4 ^ K → (front : List ℕ) → reverseComplement (letters K (rc K x) ++ front) ≡ reverseComplement front ++ letters K x
@@ -66,11 +80,11 @@ module _ (K x : ℕ) (small : x < 4 ^ K) (ks : List ℕ) (es : List Ends) (back 
       let n = count-is (back .bases) (g .behind) 1 (omega arith) w in
       record {
         piece = record {
-          back-ends = count-within (back .bases) (g .behind) 1 (omega arith) w;
+          back-ends = count-ended (back .bases) (g .behind) 1 (omega arith) w;
           front-ends = rw b (λ e. never true refl e);
         };
         label = rw (b, letters-before (back .bases) (g .behind) 1 (omega arith) w, c);
-        long = rw (b, c) (omega (arith, n, length-append (map letterOf (back .bases)) (1 ∷ []), length-map (back .bases) letterOf));
+        long = rw b (omega (arith, n, closed-long back front c));
       }
 
   told-open : closed (back .last) ≡ false → Told
@@ -85,8 +99,8 @@ module _ (K x : ℕ) (small : x < 4 ^ K) (ks : List ℕ) (es : List Ends) (back 
       let m = count-is (front .bases) (g .behind) 0 (omega arith) d in
       record {
         piece = record {
-          back-ends = count-within (back .bases) rest 0 (omega arith) w;
-          front-ends = λ _. count-within (front .bases) (g .behind) 0 (omega arith) d;
+          back-ends = count-ended (back .bases) rest 0 (omega arith) w;
+          front-ends = λ _. count-ended (front .bases) (g .behind) 0 (omega arith) d;
         };
         label =
             rw (
@@ -96,16 +110,7 @@ module _ (K x : ℕ) (small : x < 4 ^ K) (ks : List ℕ) (es : List Ends) (back 
               c,
               turned K x small (map letterOf (front .bases)),
             );
-        long = rw (b, c)
-            (omega (
-              arith,
-              n,
-              m,
-              length-append (map letterOf (back .bases)) (0 ∷ (map letterOf (front .bases) ++ (0 ∷ []))),
-              length-append (map letterOf (front .bases)) (0 ∷ []),
-              length-map (back .bases) letterOf,
-              length-map (front .bases) letterOf,
-            ));
+        long = rw b (omega (arith, n, m, open-long back front c));
       }
 
   pub told : Told

@@ -1,4 +1,4 @@
--- A text that stands in a buffer from a place on, lengthened or changed. Assumes nothing.
+-- A text that stands in a buffer, from its first cell or from a place on: lengthened or changed. Assumes nothing.
 use mathlib.Core.Path.{_≡_, refl, sym, ap, _∙_}
 use mathlib.Core.List.{List, [], _∷_, _++_, append-assoc}
 use Prim.Native.Nat.{ℕ, _+_, _≤_, _<_}
@@ -6,9 +6,21 @@ use native.Mathlib.Numerals.{add-one}
 use native.Mathlib.Omega.{arith}
 use lib.ListN.{length, take, drop, set, length-append}
 use lib.Seq.{paste, length-paste, take-paste, drop-paste, drop-drop, take-length, take-all, take-at, drop-at, length-take-le, set-split, append-snoc}
-use Rattle.dna.specs.Text.{part}
+use lib.Seq.{take-append-seam, drop-append-add}
+use Rattle.dna.specs.Text.{over, part}
 
--- A second text behind the first.
+-- A second text behind one that stands from the first cell on.
+pub over-pasted : (text slice more : List ℕ) → paste (over text slice) (length text) more (length more) ≡ over (text ++ more) slice
+over-pasted text slice more =
+    rw (
+      take-append-seam text (drop (length text) slice),
+      take-length more,
+      drop-append-add text (drop (length text) slice) (length more),
+      drop-drop (length more) (length text) slice,
+      length-append text more,
+    )
+
+-- A second text behind one that stands from a place on.
 paste-behind : (buffer : List ℕ) (at : ℕ) (s t : List ℕ) → at + (length s + length t) ≤ length buffer
     → paste (paste buffer at s (length s)) (at + length s) t (length t) ≡ paste buffer at (s ++ t) (length s + length t)
 paste-behind d p s t h =
@@ -58,7 +70,8 @@ module _ {buffer text buffer′ : List ℕ} {at : ℕ} (p : Placed buffer at tex
   }
 
   -- With one cell behind it.
-  pub placed-one : (v n : ℕ) {i : ℕ} → n ≡ length text → i ≡ at + n → at + n < length buffer → Placed buffer at (text ++ (v ∷ [])) (set buffer′ i v)
+  pub placed-one : (v n : ℕ) {i : ℕ} → n ≡ length text → i ≡ at + n → at + n < length buffer
+      → Placed buffer at (text ++ (v ∷ [])) (set buffer′ i v)
   placed-one v n en ei h =
       placed-more (v ∷ []) n 1 en refl (omega arith)
       (ap (λ (i : ℕ). set buffer′ i v) ei ∙ paste-one buffer′ (at + n) v (omega (arith, placed-length)))

@@ -9,7 +9,7 @@ use lib.ListN.{length, getD, take, drop, length-map, length-append}
 use lib.Seq.{take-at, getD-at, drop-append-add}
 use Rattle.lemmas.proofs.Tests.{choose}
 use Rattle.dna.specs.Letters.{letterOf}
-use Rattle.contraction.specs.Trail.{letterCount}
+use Rattle.contraction.specs.Trail.{letterCount, Ended}
 
 -- Every letter is above the bytes that are none.
 pub letter-above : (c : ℕ) → 2 < letterOf c
@@ -54,8 +54,8 @@ module _ {s : List ℕ} (bs r : List ℕ) (x : ℕ) (h : x ≤ 2) (e : s ≡ map
   along : length (map letterOf bs) ≡ letterCount s
   along = length-map bs letterOf ∙ sym count-is
 
-  pub count-within : letterCount s < length s
-  count-within = omega (arith, along, ap length e, length-append (map letterOf bs) (x ∷ r))
+  pub count-ended : Ended s
+  count-ended = record { within = omega (arith, along, ap length e, length-append (map letterOf bs) (x ∷ r)) }
 
   pub byte-behind : getD s (letterCount s) 0 ≡ x
   byte-behind = ap (λ (t : List ℕ). getD t (letterCount s) 0) e ∙ getD-at (map letterOf bs) x r 0 (letterCount s) along

@@ -18,7 +18,7 @@ use Rattle.table.specs.Calls.{fitAnswer, fitCall}
 use Rattle.table.specs.declared.FitAnswer.{FitAnswer}
 use Rattle.table.specs.declared.FitAnswer.the-variants.{Fit, Unfit, UnsupportedK}
 use Rattle.table.proofs.Told.{told-unsupported, told-unfit, told-fit}
-use Rattle.contraction.specs.Says.{contractAnswer, Contracts, Table, finishIn}
+use Rattle.contraction.specs.Says.{contractAnswer, Contracts, FitTable, finishIn}
 use Rattle.contraction.specs.declared.ContractAnswer.{ContractAnswer}
 use Rattle.contraction.specs.declared.ContractAnswer.the-variants as answers
 
@@ -56,7 +56,7 @@ module _ (K cutoff n : ℕ) (keys counts labels starts lengths marks : List ℕ)
     few-marks h = rw (ok .0, ok .1, lt-ltb (length marks) n h) stays
 
     module _ (h : n ≤ length marks) where
-      pub fit-first : Table K keys counts (take n marks)
+      pub fit-first : FitTable K keys counts (take n marks)
       fit-first =
           let l : length (take n marks) ≡ n = length-take-le n marks h in
           let m = fit-room K n keys counts (ok .1) in

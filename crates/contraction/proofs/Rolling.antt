@@ -82,6 +82,7 @@ module _ {K x : ℕ} {s : Strands} (strands : Both K x s) where
   pub both-on : (b : ℕ) {y : ℕ} → forward K x b ≡ y → {t : Strands} → Both K (forward K (valueOf (s .here)) b) t → Both K y t
   both-on b e next = rw (strands .here, e) at next
 
+-- Marks with the same ends show a vertex alike.
 pub both-still : {K : ℕ} (keys ms after : List ℕ) (v : ℕ) (s : Side) {t : Strands} → ends after ≡ ends ms → Both K (seen K (keysFor ms keys) v s) t
     → Both K (seen K (keysFor after keys) v s) t
 both-still keys ms after v s e strands = rw (ends-length ms after e) strands

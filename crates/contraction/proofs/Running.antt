@@ -1,4 +1,4 @@
--- The run of all anchors, one anchor more: its labels only grow, and all of them are short enough for 32 bits. Assumes nothing.
+-- The run of one vertex more: its labels only grow, and all of them together are short enough for 32 bits. Assumes nothing.
 use mathlib.Core.Path.{_≡_, refl, ap, _∙_}
 use mathlib.Core.Bool.{true, false, _||_}
 use mathlib.Core.Logic.{⊎-elim}
@@ -15,14 +15,13 @@ use Rattle.state.specs.declared.Side.the-variants.{Front, Back}
 use Rattle.graph.specs.Walks.{Ends, walk, visited, isolated}
 use Rattle.graph.specs.Labels.{Run, labelOf, extract, run}
 use Rattle.graph.specs.Contraction.{endToEnd}
-use Rattle.laws.proofs.Room.{run-room}
+use Rattle.laws.proofs.Room.{run-room, total-snoc}
 use Rattle.marks.specs.Marks.{ends}
 use Rattle.contraction.specs.Ready.{Ready, keysFor, runIn}
 use Rattle.contraction.proofs.Still.{keys-marks}
-use Rattle.contraction.proofs.Appending.{end-to-end-snoc}
 
--- No label is lost between two runs.
-pub record Grown (r r₂ : Run) : Type 0 where
+-- A run has no more labels than another, and no more bases.
+pub record NoMore (r r₂ : Run) : Type 0 where
   pub number : length (r .labels) ≤ length (r₂ .labels)
   pub total : length (endToEnd (r .labels)) ≤ length (endToEnd (r₂ .labels))
 
@@ -45,33 +44,32 @@ module _ (K : ℕ) (ks : List ℕ) (es : List Ends) where
   unfolding extract
   extract-labels r a = refl
 
-  extract-grown : (r : Run) (a : ℕ) → Grown r (extract K ks es r a)
+  extract-grown : (r : Run) (a : ℕ) → NoMore r (extract K ks es r a)
   extract-grown r a =
       let l : List ℕ = labelUnder (r .marks) a in
       let e : length (extract K ks es r a .labels) ≡ length (r .labels) + 1 =
       ap length (extract-labels r a) ∙ length-append (r .labels) (l ∷ []) in
       let t : length (endToEnd (extract K ks es r a .labels)) ≡ length (endToEnd (r .labels)) + length (labelUnder (r .marks) a) =
-      ap (λ (ls : List (List ℕ)). length (endToEnd ls)) (extract-labels r a) ∙ ap length (end-to-end-snoc (r .labels) l)
-      ∙ length-append (endToEnd (r .labels)) l in
+      ap (λ (ls : List (List ℕ)). length (endToEnd ls)) (extract-labels r a) ∙ total-snoc (r .labels) l in
       record { number = omega arith; total = omega arith }
 
-  same-grown : (r : Run) → Grown r r
+  same-grown : (r : Run) → NoMore r r
   same-grown r = record { number = omega arith; total = omega arith }
 
-  next-grown : (n : ℕ) → Grown (run K ks es n) (run K ks es (suc n))
+  next-grown : (n : ℕ) → NoMore (run K ks es n) (run K ks es (suc n))
   unfolding run
   next-grown n =
-      choose (Grown (run K ks es n)) (visited (run K ks es n .marks) n || isolated es n) (λ _. same-grown (run K ks es n))
+      choose (NoMore (run K ks es n)) (visited (run K ks es n .marks) n || isolated es n) (λ _. same-grown (run K ks es n))
       (λ _. extract-grown (run K ks es n) n)
 
-  pub run-grown : (a n : ℕ) → a ≤ n → Grown (run K ks es a) (run K ks es n)
+  pub run-grown : (a n : ℕ) → a ≤ n → NoMore (run K ks es a) (run K ks es n)
   run-grown a zero h = let e : a ≡ 0 = omega arith in rw e (same-grown (run K ks es 0))
   run-grown a (suc n) h = ⊎-elim (λ l. on (run-grown a n (omega arith))) here (lt-or-ge a (suc n))
     where
-      here : suc n ≤ a → Grown (run K ks es a) (run K ks es (suc n))
+      here : suc n ≤ a → NoMore (run K ks es a) (run K ks es (suc n))
       here l = let e : a ≡ suc n = omega arith in rw e (same-grown (run K ks es (suc n)))
 
-      on : Grown (run K ks es a) (run K ks es n) → Grown (run K ks es a) (run K ks es (suc n))
+      on : NoMore (run K ks es a) (run K ks es n) → NoMore (run K ks es a) (run K ks es (suc n))
       on g = let x = next-grown n in record { number = omega arith; total = omega arith }
 
 -- The labels of a run have at most 63 * 65,536 bases.

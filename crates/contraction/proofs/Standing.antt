@@ -14,7 +14,7 @@ use Rattle.graph.specs.Walks.{Walk, walk, visited, isolated}
 use Rattle.table.specs.Search.{key}
 use Rattle.marks.specs.Marks.{ends}
 use Rattle.contraction.specs.Ready.{Ready, keysFor, runIn}
-use Rattle.contraction.specs.Trail.{pieceFrom, trailIn, Trails, Piece, labelFrom, pieceLength}
+use Rattle.contraction.specs.Trail.{pieceOf, pieceFrom, trailIn, Trails, Piece, labelFrom, pieceLength}
 use Rattle.contraction.proofs.Anchors.{anchor-is, anchor-small}
 use Rattle.contraction.proofs.Pieces.{Begins, skips-byte, given-some, Told, told}
 use Rattle.contraction.proofs.Running.{labelUnder}
@@ -68,8 +68,11 @@ module _ {K : ℕ} {keys ms trail : List ℕ} {from a : ℕ} (p : Standing K key
     pub takes-here : skipped ≡ false
     takes-here = sym byte ∙ ne-eqb (getD trail from 0) 2 n
 
-    reads : Told K (key keys a) (anchor-small (p .ready) a (p .vertex)) (keysFor ms keys) (ends ms) B F (record { behind = here .behind; whole = here .whole ∙ rw takes-here })
-    reads = told K (key keys a) (anchor-small (p .ready) a (p .vertex)) (keysFor ms keys) (ends ms) B F _
+    begins : Begins (pieceOf B F) (drop from trail)
+    begins = record { behind = here .behind; whole = here .whole ∙ rw takes-here }
+
+    reads : Told K (key keys a) (anchor-small (p .ready) a (p .vertex)) (keysFor ms keys) (ends ms) B F begins
+    reads = told K (key keys a) (anchor-small (p .ready) a (p .vertex)) (keysFor ms keys) (ends ms) B F begins
 
     pub piece-here : Piece (drop from trail)
     piece-here = reads .piece

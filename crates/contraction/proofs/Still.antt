@@ -1,4 +1,4 @@
--- Marks with the same ends as others: they are as ready, and walked alike. Assumes nothing.
+-- Marks that are ready: there is a key for each, and others with the same ends are as ready, and walked alike. Assumes nothing.
 use mathlib.Core.Path.{_≡_, _∙_}
 use mathlib.Core.List.{List}
 use Prim.Native.Nat.{ℕ}

@@ -1,8 +1,8 @@
--- All anchors, one after the other: what each label adds to the run. Assumes nothing.
+-- All vertices, one after the other: what the label of each anchor adds to the run. Assumes nothing.
 use mathlib.Core.Path.{_≡_, refl, sym, ap, ap₂, _∙_}
-use mathlib.Core.Bool.{Bool, true, false, cond, _||_, or-assoc}
+use mathlib.Core.Bool.{Bool, true, false, _||_, or-assoc}
 use mathlib.Core.List.{List, [], _∷_, _++_}
-use Prim.Native.Nat.{ℕ, suc, _+_, _*_, _≤_, _<_}
+use Prim.Native.Nat.{ℕ, _+_, _*_, _≤_, _<_}
 use native.Mathlib.Omega.{arith}
 use lib.ListN.{length, replicate, length-append}
 use Rattle.graph.specs.Table.{keysOf}
@@ -16,12 +16,13 @@ use Rattle.contraction.specs.Says.{Unvisited, Extracts, Surveys}
 use Rattle.contraction.specs.declared.Extracted.{Extracted}
 use Rattle.marks.proofs.Marking.{ends-length}
 use Rattle.contraction.proofs.Still.{keys-marks}
+use Rattle.contraction.proofs.Running.{run-skips, run-takes}
 
 -- A run that has marks and nothing else.
 abbrev from : List ℕ → Run
 from marks = record { marks = marks; labels = []; missed = false }
 
--- The first a anchors are done.
+-- The first a vertices are done.
 pub record Surveying (K : ℕ) (keys ms : List ℕ) (a labels bases : ℕ) (missing : Bool) (now : List ℕ) : Type 0 where
   pub ready : Ready K keys ms
   pub within : a ≤ length ms
@@ -46,22 +47,17 @@ module _ {K : ℕ} {keys ms : List ℕ} where
     };
   }
 
-  module _ {a labels bases : ℕ} {missing : Bool} {now : List ℕ} (g : Surveying K keys ms a labels bases missing now)
-      (h : a < length ms) where
-    -- The next anchor, by whether it is skipped.
-    run-on : {t : Bool} → t ≡ (visited (visits now) a || isolated (ends now) a)
-        → runIn K keys ms (a + 1) ≡ cond t (runIn K keys ms a) (extract K (keysFor ms keys) (ends ms) (runIn K keys ms a) a)
-    unfolding run
-    run-on {t} e =
-        let n : a + 1 ≡ suc a = omega arith in
-        let r = runIn K keys ms a in
-        let f : t ≡ (visited (r .marks) a || isolated (ends ms) a) = e ∙ rw (g .surveys .ends-kept, g .surveys .visits-after) in
-        ap (runIn K keys ms) n ∙ ap (λ (b : Bool). cond b r (extract K (keysFor ms keys) (ends ms) r a)) (sym f)
+  module _ {a labels bases : ℕ} {missing : Bool} {now : List ℕ} (g : Surveying K keys ms a labels bases missing now) where
+    -- The marks say of the next vertex what the run says: whether it is skipped.
+    pub skipped-is : {t : Bool} → t ≡ (visited (visits now) a || isolated (ends now) a)
+        → (visited (runIn K keys ms a .marks) a || isolated (ends ms) a) ≡ t
+    skipped-is e = sym (e ∙ rw (g .surveys .ends-kept, g .surveys .visits-after))
 
-    pub surveying-skip : true ≡ (visited (visits now) a || isolated (ends now) a) → Surveying K keys ms (a + 1) labels bases missing now
-    surveying-skip e =
+    pub surveying-skip : a < length ms → true ≡ (visited (visits now) a || isolated (ends now) a)
+        → Surveying K keys ms (a + 1) labels bases missing now
+    surveying-skip h e =
         let s = g .surveys in
-        let q : runIn K keys ms (a + 1) ≡ runIn K keys ms a = run-on e in
+        let q : runIn K keys ms (a + 1) ≡ runIn K keys ms a = run-skips K (keysFor ms keys) (ends ms) a (skipped-is e) in
         record {
           ready = g .ready;
           within = omega arith;
@@ -76,14 +72,15 @@ module _ {K : ℕ} {keys ms : List ℕ} where
           };
         }
 
-    pub surveying-take : false ≡ (visited (visits now) a || isolated (ends now) a) → {l : Extracted} {after trail trail′ : List ℕ} {at : ℕ}
-        → Extracts K keys now a l after trail at trail′ → {t : Bool} → t ≡ (missing || l .missing)
-        → Surveying K keys ms (a + 1) (labels + 1) (bases + l .bases) t after
+    pub surveying-take : a < length ms → false ≡ (visited (visits now) a || isolated (ends now) a)
+        → {l : Extracted} {after trail trail′ : List ℕ} {at : ℕ} → Extracts K keys now a l after trail at trail′
+        → {t : Bool} → t ≡ (missing || l .missing) → Surveying K keys ms (a + 1) (labels + 1) (bases + l .bases) t after
     unfolding extract
-    surveying-take e {l} {after} x {t} m =
+    surveying-take h e {l} {after} x {t} m =
         let s = g .surveys in
         let r = runIn K keys ms a in
-        let next : runIn K keys ms (a + 1) ≡ extract K (keysFor ms keys) (ends ms) r a = run-on e in
+        let next : runIn K keys ms (a + 1) ≡ extract K (keysFor ms keys) (ends ms) r a =
+        run-takes K (keysFor ms keys) (ends ms) a (skipped-is e) in
         let alone : extractIn K keys now a ≡ extract K (keysFor ms keys) (ends ms) (from (r .marks)) a =
         ap (λ (n : ℕ). extract K (keysOf n keys) (ends now) (from (visits now)) a) (ends-length ms now (s .ends-kept))
         ∙ ap (λ (es : List Ends). extract K (keysFor ms keys) es (from (visits now)) a) (s .ends-kept)

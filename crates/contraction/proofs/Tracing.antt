@@ -17,6 +17,7 @@ use Rattle.contraction.specs.declared.Walked.{Walked}
 use Rattle.contraction.proofs.Labelling.{front-is}
 use Rattle.marks.proofs.Marking.{ends-length}
 use Rattle.contraction.proofs.Still.{ready-still}
+use Rattle.contraction.proofs.Pieces.{closed-long, open-long}
 use Rattle.contraction.proofs.Placing.{Placed, placed-first, placed-length, placed-more, placed-one}
 
 -- What is asked: the anchor is a vertex, and its piece has room from a place on.
@@ -38,30 +39,12 @@ module _ {K : ℕ} {keys ms : List ℕ} {a : ℕ} {trail : List ℕ} {at : ℕ} 
   piece-open : closed (B .last) ≡ false → map letterOf (B .bases) ++ (0 ∷ []) ++ map letterOf (F .bases) ++ (0 ∷ []) ≡ pieceIn K keys ms a
   piece-open c = rw (c, append-assoc, append-assoc)
 
-  long-closed : closed (B .last) ≡ true → length (pieceIn K keys ms a) ≡ length (B .bases) + 1
-  long-closed c =
-      omega (arith, ap length (piece-closed c), length-append (map letterOf (B .bases)) (1 ∷ []), length-map (B .bases) letterOf)
-
-  long-open : closed (B .last) ≡ false → length (pieceIn K keys ms a) ≡ length (B .bases) + 1 + length (F .bases) + 1
-  long-open c =
-      let bl : List ℕ = map letterOf (B .bases) in
-      let fl : List ℕ = map letterOf (F .bases) in
-      omega (
-        arith,
-        ap length (piece-open c),
-        length-append (bl ++ (0 ∷ []) ++ fl) (0 ∷ []),
-        length-append (bl ++ (0 ∷ [])) fl,
-        length-append bl (0 ∷ []),
-        length-map (B .bases) letterOf,
-        length-map (F .bases) letterOf,
-      )
-
   pub back-room : at + length (B .bases) < length trail
   back-room = go (closed (B .last)) refl
     where
       go : (t : Bool) → closed (B .last) ≡ t → at + length (B .bases) < length trail
-      go true c = omega (arith, y .room, long-closed c)
-      go false c = omega (arith, y .room, long-open c)
+      go true c = omega (arith, y .room, closed-long B F c)
+      go false c = omega (arith, y .room, open-long B F c)
 
   module _ {b : Walked} {ms₁ trail₁ : List ℕ} (back : Spells K keys ms a Back b ms₁ trail at trail₁) where
     back-placed : Placed trail at (map letterOf (B .bases)) trail₁
@@ -88,7 +71,7 @@ module _ {K : ℕ} {keys ms : List ℕ} {a : ℕ} {trail : List ℕ} {at : ℕ} 
       ended = ap closed (sym (back .walks .last)) ∙ c
 
       pub end-closed : at + b .bases + 1 ≡ at + length (pieceIn K keys ms a)
-      end-closed = omega (arith, long-closed ended, back .walks .bases)
+      end-closed = omega (arith, closed-long B F ended, back .walks .bases)
 
       pub traced-closed : Placed trail at (pieceIn K keys ms a) (set trail₁ (at + b .bases) 1)
       traced-closed = rw (piece-closed ended) at (placed-one back-placed 1 (b .bases) bases-is refl half-fits)
@@ -108,7 +91,7 @@ module _ {K : ℕ} {keys ms : List ℕ} {a : ℕ} {trail : List ℕ} {at : ℕ} 
           omega (
             arith,
             y .room,
-            long-open going,
+            open-long B F going,
             back .walks .bases,
             ap (λ (w : Walk). length (w .bases)) same-front,
             placed-length stop-placed,
@@ -127,18 +110,18 @@ module _ {K : ℕ} {keys ms : List ℕ} {a : ℕ} {trail : List ℕ} {at : ℕ} 
             let e : at + b .bases + 1 ≡ at + (b .bases + 1) = omega arith in
             placed-more stop-placed (map letterOf (F .bases)) (b .bases + 1) (length (F .bases)) (sym stop-long)
             (sym (length-map (F .bases) letterOf))
-            (omega (arith, y .room, long-open going, back .walks .bases, stop-long, length-map (F .bases) letterOf))
+            (omega (arith, y .room, open-long B F going, back .walks .bases, stop-long, length-map (F .bases) letterOf))
             (rw e at (front .letters)
             ∙ ap (λ (w : Walk). paste (set trail₁ (at + b .bases) 0) (at + (b .bases + 1)) (map letterOf (w .bases)) (length (w .bases))) same-front)
 
         pub end-fits : at + b .bases + 1 + f .bases < length trail
-        end-fits = omega (arith, y .room, long-open going, back .walks .bases, front-long)
+        end-fits = omega (arith, y .room, open-long B F going, back .walks .bases, front-long)
 
         pub end-inside : at + b .bases + 1 + f .bases < length trail₂
         end-inside = omega (arith, end-fits, placed-length front-placed)
 
         pub end-open : at + b .bases + 1 + f .bases + 1 ≡ at + length (pieceIn K keys ms a)
-        end-open = omega (arith, long-open going, back .walks .bases, front-long)
+        end-open = omega (arith, open-long B F going, back .walks .bases, front-long)
 
         pub traced-open : Placed trail at (pieceIn K keys ms a) (set trail₂ (at + b .bases + 1 + f .bases) 0)
         traced-open =

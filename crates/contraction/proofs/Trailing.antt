@@ -1,4 +1,4 @@
--- The trail of all vertices: what each gives to it, and where that stands. Assumes nothing.
+-- The trail of all vertices: what each gives to it, where that stands, and that two bytes for each are enough. Assumes nothing.
 use mathlib.Core.Path.{_≡_, refl, sym, ap, ap₂, _∙_}
 use mathlib.Core.Bool.{Bool, true, false, cond, _||_}
 use mathlib.Core.Logic.{⊎-elim}

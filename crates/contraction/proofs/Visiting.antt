@@ -1,13 +1,12 @@
--- Each letter of an anchor's piece is a vertex newly visited. Assumes nothing.
+-- Each base of a walk, and so each letter of an anchor's piece, is a vertex newly visited. Assumes nothing.
 use mathlib.Core.Path.{_≡_, ap, _∙_}
-use mathlib.Core.Bool.{Bool, true, false, cond}
-use mathlib.Core.List.{List, [], _∷_, _++_, map}
+use mathlib.Core.Bool.{false, cond}
+use mathlib.Core.List.{List, [], _∷_}
 use Prim.Native.Nat.{ℕ, zero, suc, _+_, _≤_, _<_}
 use native.Mathlib.Omega.{arith}
 use lib.Dec.{eqb}
-use lib.ListN.{length, set, length-set, length-map, length-append}
+use lib.ListN.{length, set, length-set, length-map}
 use Rattle.lemmas.proofs.Tests.{choose}
-use Rattle.dna.specs.Letters.{letterOf}
 use Rattle.state.specs.declared.Side.{Side}
 use Rattle.state.specs.declared.Side.the-variants.{Front, Back}
 use Rattle.graph.specs.declared.Step.{Step}
@@ -17,8 +16,9 @@ use Rattle.laws.specs.Trails.{Place, Trail, Trail.ends, Trail.goes}
 use Rattle.laws.proofs.Steps.{came, came-lt}
 use Rattle.laws.proofs.Fuel.{unseen, unseen-falls, walk-went, trail-long}
 use Rattle.contraction.specs.Trail.{pieceOf}
+use Rattle.contraction.proofs.Pieces.{closed-long, open-long}
 
--- A vertex marked again is visited still.
+-- To mark a vertex leaves no more unseen than there were.
 unseen-set : (marks : List ℕ) (v : ℕ) → unseen (set marks v 1) ≤ unseen marks
 unfolding unseen
 unseen-set [] v = omega arith
@@ -41,11 +41,11 @@ module _ (K : ℕ) (ks : List ℕ) (es : List Ends) where
       )
 
   -- Each base of a walk is a vertex that it visits, beside the one that it starts from.
-  record Paced (a : ℕ) (start : Side) (marks : List ℕ) : Type 0 where
+  pub record Paced (a : ℕ) (start : Side) (marks : List ℕ) : Type 0 where
     pub long : length (walk K ks es a start marks .marks) ≡ length ks
     pub sum : length (walk K ks es a start marks .bases) + unseen (walk K ks es a start marks .marks) ≡ unseen (set marks a 1)
 
-  paced : (a : ℕ) (start : Side) (marks : List ℕ) → length marks ≡ length ks → Paced a start marks
+  pub paced : (a : ℕ) (start : Side) (marks : List ℕ) → length marks ≡ length ks → Paced a start marks
   paced a start marks l =
       let w = walk-went K ks es a start marks l in
       let n : length (set marks a 1) ≡ length ks = length-set marks a 1 ∙ l in
@@ -68,28 +68,16 @@ module _ (K : ℕ) (ks : List ℕ) (es : List Ends) where
 
     pub piece-room : length (pieceOf B F) + unseen (extract K ks es r a .marks) ≤ suc (unseen (r .marks))
     unfolding extract
-    piece-room = go (closed (B .last))
-      where
-        go : (t : Bool) → length (map letterOf (B .bases) ++ cond t (1 ∷ []) (0 ∷ (map letterOf (F .bases) ++ (0 ∷ []))))
-            + unseen (cond t (B .marks) (F .marks)) ≤ suc (unseen (r .marks))
-        go true =
-            omega (
-              arith,
-              length-append (map letterOf (B .bases)) (1 ∷ []),
-              length-map (B .bases) letterOf,
-              paced a Back (r .marks) l .sum,
-              unseen-falls (r .marks) a (omega arith) f,
-            )
-        go false =
-            let b = paced a Back (r .marks) l in
-            omega (
-              arith,
-              length-append (map letterOf (B .bases)) (0 ∷ (map letterOf (F .bases) ++ (0 ∷ []))),
-              length-append (map letterOf (F .bases)) (0 ∷ []),
-              length-map (B .bases) letterOf,
-              length-map (F .bases) letterOf,
-              b .sum,
-              paced a Front (B .marks) (b .long) .sum,
-              unseen-set (B .marks) a,
-              unseen-falls (r .marks) a (omega arith) f,
-            )
+    piece-room =
+        let b = paced a Back (r .marks) l in
+        choose (λ (after : List ℕ). length (pieceOf B F) + unseen after ≤ suc (unseen (r .marks))) (closed (B .last))
+        (λ c. omega (arith, closed-long B F c, b .sum, unseen-falls (r .marks) a (omega arith) f))
+        (λ c.
+        omega (
+          arith,
+          open-long B F c,
+          b .sum,
+          paced a Front (B .marks) (b .long) .sum,
+          unseen-set (B .marks) a,
+          unseen-falls (r .marks) a (omega arith) f,
+        ))

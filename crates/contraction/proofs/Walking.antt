@@ -4,31 +4,30 @@ use mathlib.Core.Bool.{true, false}
 use mathlib.Core.List.{List, _∷_}
 use Prim.Native.Nat.{ℕ, _+_, _≤_, _<_}
 use native.Mathlib.Omega.{arith}
-use lib.ListN.{length, getD, set, drop, length-drop}
+use lib.ListN.{length, getD, set, drop, length-set, length-drop}
 use lib.Seq.{drop-drop, getD-drop}
 use Rattle.kmer.specs.Kmer.{forward}
 use Rattle.state.specs.declared.Side.{Side}
 use Rattle.graph.specs.declared.Step.{Step}
 use Rattle.graph.specs.declared.Step.the-variants.{Next}
 use Rattle.graph.specs.Table.{keysOf}
-use Rattle.graph.specs.Walks.{Ends, visited, seen, step, walk}
+use Rattle.graph.specs.Walks.{Ends, visited, seen, step}
 use Rattle.laws.specs.Trails.{isNext}
 use Rattle.laws.proofs.Steps.{Came, came, came-lt, came-forward, came-base}
-use Rattle.laws.proofs.Fuel.{Went, walk-went}
+use Rattle.laws.proofs.Fuel.{unseen-le, Went, walk-went}
 use Rattle.marks.specs.Marks.{ends, visits}
 use Rattle.contraction.specs.Ready.{keysFor, walkIn, Ready}
 use Rattle.contraction.specs.Says.{Advances, Walks}
 use Rattle.marks.proofs.Marking.{visits-length, ends-length, visited-still, visited-now}
 use Rattle.contraction.proofs.Still.{keys-marks}
-use Rattle.contraction.proofs.Onward.{rest, went-on, went-ends, follow-few}
+use Rattle.contraction.proofs.Onward.{rest, went-on, went-ends}
+use Rattle.contraction.proofs.Visiting.{paced}
 
 -- A walk has no more bases than there are vertices.
 pub walk-few : {K : ℕ} {keys ms : List ℕ} → Ready K keys ms → (a : ℕ) (start : Side) → length (walkIn K keys ms a start .bases) ≤ length ms
-unfolding walk
 walk-few {K} {keys} {ms} r a start =
-    let ks = keysFor ms keys in
-    let m = set (visits ms) a 1 in
-    omega (arith, keys-marks r, follow-few K ks (ends ms) a start (length ks) (step K ks (ends ms) a start m a start) m)
+    let p = paced K (keysFor ms keys) (ends ms) a start (visits ms) (visits-length ms ∙ sym (keys-marks r)) in
+    omega (arith, p .sum, unseen-le (set (visits ms) a 1), length-set (visits ms) a 1, visits-length ms)
 
 -- The walk stands at vertex v, which it is to mark and to leave by side s.
 pub record Walking (K : ℕ) (keys ms : List ℕ) (a : ℕ) (start : Side) (bases v : ℕ) (s : Side) (now : List ℕ) : Type 0 where

@@ -17,7 +17,7 @@ use Rattle.kmer.proofs.Spelling.{length-letters}
 use Rattle.graph.specs.Labels.{lesser}
 use Rattle.laws.proofs.Plain.{lesser-length}
 use Rattle.contraction.specs.Says.{WritesLabel}
-use Rattle.contraction.specs.Trail.{letterCount, Ends, Piece, labelFrom, pieceLength}
+use Rattle.contraction.specs.Trail.{letterCount, Ended, Piece, labelFrom, pieceLength}
 use Rattle.contraction.proofs.Copying.{part-length}
 use Rattle.contraction.proofs.Placing.{Placed, placed-first, placed-length, placed-more, placed-anew}
 
@@ -29,7 +29,7 @@ pub record Legible (K x : ℕ) (trail : List ℕ) (from : ℕ) (buffer : List �
 
 module _ {K x : ℕ} {trail : List ℕ} {from : ℕ} {buffer : List ℕ} {at n : ℕ} (y : Legible K x trail from buffer at n) where
   pub back-inside : from + n < length trail
-  back-inside = omega (arith, y .back, y .piece .back-ends, length-drop from trail)
+  back-inside = omega (arith, y .back, y .piece .back-ends .within, length-drop from trail)
 
   byte-is : getD (drop from trail) (letterCount (drop from trail)) 0 ≡ getD trail (from + n) 0
   byte-is = ap (λ (i : ℕ). getD (drop from trail) i 0) (sym (y .back)) ∙ getD-drop from trail n 0
@@ -87,8 +87,8 @@ module _ {K x : ℕ} {trail : List ℕ} {from : ℕ} {buffer : List ℕ} {at n :
         let e : from + (n + 1) ≡ from + n + 1 = omega arith in
         ap (λ (i : ℕ). drop (i + 1) (drop from trail)) (sym (y .back)) ∙ drop-drop (n + 1) from trail ∙ ap (λ (i : ℕ). drop i trail) e
 
-    pub front-ends : Ends (drop (from + n + 1) trail)
-    front-ends = record { within = rw behind at (y .piece .front-ends tells-open) }
+    pub front-ends : Ended (drop (from + n + 1) trail)
+    front-ends = rw behind at (y .piece .front-ends tells-open)
 
     module _ {m : ℕ} (em : m ≡ letterCount (drop (from + n + 1) trail)) where
       abbrev turned : List ℕ

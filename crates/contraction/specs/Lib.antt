@@ -1,3 +1,4 @@
 pub mod Ready
 pub mod Trail
 pub mod Says
+pub mod Examples

@@ -18,7 +18,7 @@ use Rattle.marks.specs.Marks.{ends, visits}
 abbrev pub keysFor : List ℕ → List ℕ → List ℕ
 keysFor ms keys = keysOf (length ms) keys
 
--- K is in its range, there is a mark for each key, the keys are fit, and each end is E, a base or N.
+-- K is in its range, there is a key for each mark, there are at most 65,536, the keys are fit, and each end is E, a base or N.
 pub record Ready (K : ℕ) (keys ms : List ℕ) : Type 0 where
   pub ok : okK K ≡ true
   pub room : length ms ≤ length keys / 2

@@ -18,9 +18,8 @@ use Rattle.graph.specs.declared.Step.{Step}
 use Rattle.graph.specs.declared.Step.the-variants.{Next, Stop}
 use Rattle.graph.specs.declared.StopReason.the-variants.{VisitedAhead}
 use Rattle.graph.specs.Table.{tableOf, fitFrom}
-use Rattle.graph.specs.Walks.{visited}
 use Rattle.graph.specs.Labels.{Run, lesser, run}
-use Rattle.graph.specs.Contraction.{Entry, entries, sorted, endToEnd, endsIn, Totals, Contracted, finish}
+use Rattle.graph.specs.Contraction.{Entry, entries, endToEnd, endsIn, Totals, Contracted, finish}
 use Rattle.marks.specs.Marks.{ends, visits}
 use Rattle.contraction.specs.Ready.{keysFor, stepIn, walkIn, extractIn, labelIn, runIn}
 use Rattle.contraction.specs.Trail.{pieceIn, labelFrom, pieceLength}
@@ -74,12 +73,13 @@ module _ (K : ℕ) (keys ms : List ℕ) where
     pub visits-after : visits after ≡ walkIn K keys ms a start .marks
     pub few : r .bases ≤ length ms
 
-  -- A walk whose letters stand in the buffer from a place on, where nothing else changed.
+  -- A walk whose letters stand in the buffer from a place on; the rest of the buffer is as it was.
   pub record Spells (a : ℕ) (start : Side) (r : Walked) (after buffer : List ℕ) (at : ℕ) (buffer′ : List ℕ) : Type 0 where
     pub walks : Walks a start r after
     pub letters : buffer′ ≡ paste buffer at (map letterOf (walkIn K keys ms a start .bases)) (length (walkIn K keys ms a start .bases))
 
-  -- Anchor a's label, unwritten: its length, and whether a vertex was missing; its walks stand in the trail from a place on.
+  -- Anchor a's label, unwritten: its length, and whether a vertex was missing; its walks stand in the trail from a place on. With at
+  -- most 63 bases of the anchor and 65,536 of each walk it stays below 200,000, so that no sum over all anchors overflows.
   pub record Extracts (a : ℕ) (r : Extracted) (after trail : List ℕ) (at : ℕ) (trail′ : List ℕ) : Type 0 where
     pub bases : r .bases ≡ length (labelIn K keys ms a)
     pub missed : r .missing ≡ extractIn K keys ms a .missed
@@ -89,7 +89,7 @@ module _ (K : ℕ) (keys ms : List ℕ) where
     pub end : r .end ≡ at + length (pieceIn K keys ms a)
     pub walks : trail′ ≡ paste trail at (pieceIn K keys ms a) (length (pieceIn K keys ms a))
 
-  -- The first a anchors, unwritten.
+  -- The labels of the first a vertices, unwritten: their number, their bases, and whether a vertex was missing.
   pub record Surveys (a labels bases : ℕ) (missing : Bool) (after : List ℕ) : Type 0 where
     pub number : labels ≡ length (runIn K keys ms a .labels)
     pub total : bases ≡ length (endToEnd (runIn K keys ms a .labels))
@@ -97,7 +97,7 @@ module _ (K : ℕ) (keys ms : List ℕ) where
     pub ends-kept : ends after ≡ ends ms
     pub visits-after : visits after ≡ runIn K keys ms a .marks
 
-  -- The labels of all anchors have room.
+  -- The labels of all vertices have room.
   pub record Roomy (buffer starts lengths : ℕ) : Type 0 where
     pub bases-fit : length (endToEnd (runIn K keys ms (length ms) .labels)) ≤ buffer
     pub starts-fit : length (runIn K keys ms (length ms) .labels) ≤ starts
@@ -126,7 +126,7 @@ pub record Lists (r : Run) (es : List Entry) (buffer buffer′ starts starts′ 
   pub starts-after : starts′ ≡ over (startsOf es) starts
   pub lengths-after : lengths′ ≡ over (lengthsOf es) lengths
 
--- The labels of the first a anchors, written end to end, with their index in anchor order.
+-- The labels of the first a vertices, written end to end, with their index in anchor order.
 pub record Writes (K : ℕ) (keys ms : List ℕ) (a labels at : ℕ) (buffer buffer′ starts starts′ lengths lengths′ : List ℕ) : Type 0 where
   pub number : labels ≡ length (runIn K keys ms a .labels)
   pub total : at ≡ length (endToEnd (runIn K keys ms a .labels))
@@ -144,13 +144,13 @@ pub record Normal (buffer starts lengths : List ℕ) (n : ℕ) : Type 0 where
   pub canonical : (i : ℕ) → i < n → lesser (labelAt buffer starts lengths i) ≡ labelAt buffer starts lengths i
   pub distinct : (i j : ℕ) → i < n → j < n → labelAt buffer starts lengths i ≡ labelAt buffer starts lengths j → i ≡ j
 
--- A list of the first n entries in order: starts and lengths of an index, sorted.
+-- The first n entries of an index put in order of the labels that they name in a buffer; those behind them stay.
 pub record Ordered (buffer starts lengths : List ℕ) (n : ℕ) (starts′ lengths′ : List ℕ) : Type 0 where
   pub starts-after : starts′ ≡ over (map (λ (p : Spot). p .start) (sortedSpots buffer n starts lengths)) starts
   pub lengths-after : lengths′ ≡ over (map (λ (p : Spot). p .length) (sortedSpots buffer n starts lengths)) lengths
 
 -- A fit table with as many vertices as there are marks.
-pub record Table (K : ℕ) (keys counts ms : List ℕ) : Type 0 where
+pub record FitTable (K : ℕ) (keys counts ms : List ℕ) : Type 0 where
   pub ok : okK K ≡ true
   pub room : length ms ≤ length keys / 2
   pub counted : length ms ≤ length counts

@@ -13,15 +13,15 @@ use Rattle.graph.specs.Labels.{lesser}
 use Rattle.marks.specs.Marks.{ends, visits}
 use Rattle.contraction.specs.Ready.{keysFor, runIn}
 
--- The letters of the Back walk, and of the Front walk unless the first has closed, each with a byte behind it that tells how it
--- ended: 0 where it stopped, 1 where it closed.
+-- The letters of the Back walk with 1 behind them if it closed; else with 0 behind them, and then the letters of the Front walk
+-- with 0 behind them.
 abbrev pub pieceOf : Walk → Walk → List ℕ
 pieceOf back front =
     map letterOf (back .bases)
     ++ cond (closed (back .last)) (1 ∷ []) (0 ∷ (map letterOf (front .bases) ++ (0 ∷ [])))
 
 module _ (K : ℕ) (keys ms : List ℕ) where
-  -- The piece of anchor a, where marks are as they are.
+  -- The piece of anchor a under some marks, and under those at hand.
   abbrev pub pieceFrom : List ℕ → ℕ → List ℕ
   pieceFrom marks a =
       let back = walk K (keysFor ms keys) (ends ms) a Back marks in
@@ -44,19 +44,19 @@ module _ (K : ℕ) (keys ms : List ℕ) where
 
 -- ---- a piece read back
 
--- How many bytes stand before the first that is no letter.
+-- How many bytes stand before the first that is no letter, which is 0, 1 or 2.
 unfoldable pub letterCount : List ℕ → ℕ
 letterCount [] = 0
 letterCount (b ∷ s) = let rest = letterCount s in cond (ltb 2 b) (suc rest) 0
 
--- A walk's letters end within a text.
-pub record Ends (s : List ℕ) : Type 0 where
+-- The letters with which a text begins are ended by a byte that is none.
+pub record Ended (s : List ℕ) : Type 0 where
   pub within : letterCount s < length s
 
 -- A text begins with an anchor's piece: after the Back walk's letters comes 1, or another byte and the Front walk's letters.
 pub record Piece (s : List ℕ) : Type 0 where
-  pub back-ends : letterCount s < length s
-  pub front-ends : eqb (getD s (letterCount s) 0) 1 ≡ false → letterCount (drop (letterCount s + 1) s) < length (drop (letterCount s + 1) s)
+  pub back-ends : Ended s
+  pub front-ends : eqb (getD s (letterCount s) 0) 1 ≡ false → Ended (drop (letterCount s + 1) s)
 
 -- The label of k-mer x and the piece with which a text begins.
 unfoldable pub labelFrom : ℕ → ℕ → List ℕ → List ℕ

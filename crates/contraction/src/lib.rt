@@ -1,8 +1,7 @@
-// Contraction: the maximal unitigs of a lent table, written into lent slices.
+// Contraction: the unitigs of a lent table, written into lent slices.
 use graph::Step;
 use kmer::Kmer;
 
-mod directory;
 mod normal;
 mod step;
 mod survey;
@@ -22,8 +21,8 @@ pub enum ContractAnswer {
     NoRoom,
 }
 
-// The bytes of a trail that are no letters: behind a walk that stopped, behind one that closed a cycle, and for a vertex that is
-// no anchor.
+// The three bytes of a trail that are no letters. STOPPED stands behind a walk, but behind a Back walk that closed a cycle stands
+// CLOSED; SKIPPED stands for a vertex that is no anchor.
 const STOPPED: u8 = 0;
 
 const CLOSED: u8 = 1;

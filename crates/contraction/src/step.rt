@@ -11,7 +11,6 @@ ghost use Rattle.marks.specs.Marks.{visits};
 ghost use Rattle.contraction.specs.Ready.{Ready, keysFor, lookIn, arriveIn, stepIn};
 ghost use Rattle.contraction.specs.Says.{Both, Advances, extended};
 use super::Strands;
-use super::directory;
 use dna::Base;
 use graph::Step;
 use graph::StopReason;
@@ -19,6 +18,7 @@ use kmer::Kmer;
 use state::Side;
 use table::Found;
 
+// The base that has this code.
 pub(crate) fn base_of(code: u8) -> Base
     requires { ⌜ code ≤ 5 ⌝ }
     ensures { λ r. ⌜ codeIn r ≡ code ⌝ }
@@ -87,7 +87,7 @@ fn look(
     side: Side,
     base: u8,
 ) -> Step
-    requires { ⌜ Ready k (now keys) (now marks) × (length (now directory) ≡ 4097) ⌝ }
+    requires { ⌜ Ready k (now keys) (now marks) ⌝ }
     ensures { λ r. ⌜ r ≡ lookIn k (now (keys .entry)) (now (marks .entry)) anchor start (valueOf y) side base ⌝ }
 {
     match directory::find(k, marks.len(), keys, directory, y) {
@@ -107,7 +107,7 @@ fn arrive(
     next: Strands,
     base: u8,
 ) -> Step
-    requires { ⌜ Ready k (now keys) (now marks) × (length (now directory) ≡ 4097) × Both k (valueOf (next .here)) next ⌝ }
+    requires { ⌜ Ready k (now keys) (now marks) × Both k (valueOf (next .here)) next ⌝ }
     ensures { λ r. ⌜ r ≡ arriveIn k (now (keys .entry)) (now (marks .entry)) anchor start (valueOf (next .here)) base ⌝ }
 {
     let here = next.here;
@@ -150,7 +150,7 @@ fn leave(
     side: Side,
     strands: Strands,
 ) -> Step
-    requires { ⌜ Ready k (now keys) (now marks) × (length (now directory) ≡ 4097) × (v < length (now marks)) × Both k (seen k (keysFor (now marks) (now keys)) v side) strands ⌝ }
+    requires { ⌜ Ready k (now keys) (now marks) × (v < length (now marks)) × Both k (seen k (keysFor (now marks) (now keys)) v side) strands ⌝ }
     ensures { λ r. ⌜ r ≡ stepIn k (now (keys .entry)) (now (marks .entry)) anchor start v side ⌝ }
 {
     let edge = marks::edge_in(marks[v], side);
@@ -187,7 +187,7 @@ pub(crate) fn advance(
     side: Side,
     strands: Strands,
 ) -> Step
-    requires { ⌜ Ready k (now keys) (now marks) × (length (now directory) ≡ 4097) × (v < length (now marks)) × (visited (set (visits (now marks)) v 1) anchor ≡ true) × Both k (seen k (keysFor (now marks) (now keys)) v side) strands ⌝ }
+    requires { ⌜ Ready k (now keys) (now marks) × (v < length (now marks)) × (visited (set (visits (now marks)) v 1) anchor ≡ true) × Both k (seen k (keysFor (now marks) (now keys)) v side) strands ⌝ }
     ensures { λ r. ⌜ Advances k (now (keys .entry)) (now (marks .entry)) anchor start v side r (now (marks .exit)) ⌝ }
 {
     marks[v] = marks[v] % 64 + 64;

@@ -15,7 +15,8 @@ use super::Surveyed;
 use super::walk;
 use state::Side;
 
-pub(crate) fn either(a: bool, b: bool) -> bool
+// Either of two tests that are both made.
+fn either(a: bool, b: bool) -> bool
     ensures { λ r. ⌜ r ≡ (a || b) ⌝ }
 {
     if a { true } else { b }
@@ -32,7 +33,7 @@ fn extract(
     trail: &mut [u8],
     at: usize,
 ) -> Extracted
-    requires { ⌜ Ready k (now keys) (now marks) × (length (now directory) ≡ 4097) × (a < length (now marks)) × (at + length (pieceIn k (now keys) (now marks) a) ≤ length (now trail)) ⌝ }
+    requires { ⌜ Ready k (now keys) (now marks) × (a < length (now marks)) × (at + length (pieceIn k (now keys) (now marks) a) ≤ length (now trail)) ⌝ }
     ensures { λ r. ⌜ Extracts k (now (keys .entry)) (now (marks .entry)) a r (now (marks .exit)) (now (trail .entry)) at (now (trail .exit)) ⌝ }
 {
     let back = walk::spell(k, keys, directory, marks, a, Side::Back, trail, at);
@@ -58,15 +59,15 @@ fn extract(
     }
 }
 
-// Every anchor in ascending order, visited and isolated ones skipped. The trail has what the labels are to be written from.
-pub(crate) fn survey(
+// All anchors' walks, by a directory of whatever content.
+fn follow_all(
     k: usize,
     keys: &[u64],
     directory: &[u32],
     marks: &mut [u8],
     trail: &mut [u8],
 ) -> Surveyed
-    requires { ⌜ Ready k (now keys) (now marks) × Unvisited (now marks) × (length (now directory) ≡ 4097) × (2 * length (now marks) ≤ length (now trail)) ⌝ }
+    requires { ⌜ Ready k (now keys) (now marks) × Unvisited (now marks) × (2 * length (now marks) ≤ length (now trail)) ⌝ }
     ensures { λ r. ⌜ Surveys k (now (keys .entry)) (now (marks .entry)) (length (now (marks .entry))) (r .labels) (r .bases) (r .missing) (now (marks .exit)) × (now (trail .exit) ≡ over (trailIn k (now (keys .entry)) (now (marks .entry)) (length (now (marks .entry)))) (now (trail .entry))) ⌝ }
 {
     let mut labels: usize = 0;
@@ -93,4 +94,42 @@ pub(crate) fn survey(
         bases,
         missing,
     }
+}
+
+// How large a directory of n vertices is worth its making.
+fn cells_for(n: usize) -> usize
+    ensures { λ r. ⌜ r ≤ 16385 ⌝ }
+{
+    if n <= 2048 {
+        return 1025;
+    }
+    if n <= 8192 {
+        return 4097;
+    }
+    16385
+}
+
+// The directory is made first.
+fn follow_by(
+    k: usize,
+    keys: &[u64],
+    directory: &mut [u32],
+    marks: &mut [u8],
+    trail: &mut [u8],
+) -> Surveyed
+    requires { ⌜ Ready k (now keys) (now marks) × Unvisited (now marks) × (2 * length (now marks) ≤ length (now trail)) ⌝ }
+    ensures { λ r. ⌜ Surveys k (now (keys .entry)) (now (marks .entry)) (length (now (marks .entry))) (r .labels) (r .bases) (r .missing) (now (marks .exit)) × (now (trail .exit) ≡ over (trailIn k (now (keys .entry)) (now (marks .entry)) (length (now (marks .entry)))) (now (trail .entry))) ⌝ }
+{
+    directory::make(k, marks.len(), keys, directory);
+    follow_all(k, keys, directory, marks, trail)
+}
+
+// Every anchor in ascending order, visited and isolated ones skipped. The trail has what the labels are to be written from.
+pub(crate) fn survey(k: usize, keys: &[u64], marks: &mut [u8], trail: &mut [u8]) -> Surveyed
+    requires { ⌜ Ready k (now keys) (now marks) × Unvisited (now marks) × (2 * length (now marks) ≤ length (now trail)) ⌝ }
+    ensures { λ r. ⌜ Surveys k (now (keys .entry)) (now (marks .entry)) (length (now (marks .entry))) (r .labels) (r .bases) (r .missing) (now (marks .exit)) × (now (trail .exit) ≡ over (trailIn k (now (keys .entry)) (now (marks .entry)) (length (now (marks .entry)))) (now (trail .entry))) ⌝ }
+{
+    let mut directory = [0u32; 16385];
+    let cells = cells_for(marks.len());
+    follow_by(k, keys, &mut directory[..cells], marks, trail)
 }

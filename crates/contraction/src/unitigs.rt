@@ -8,16 +8,15 @@ ghost use Rattle.state.specs.Counted.{fourBits};
 ghost use Rattle.graph.specs.Contraction.{contract as contracted, entries, sorted};
 ghost use Rattle.marks.specs.Marks.{visits};
 ghost use Rattle.contraction.specs.Ready.{Ready, runIn};
-ghost use Rattle.contraction.specs.Says.{Contracts, Table, Roomy, Lists, finishIn};
+ghost use Rattle.contraction.specs.Says.{Contracts, FitTable, Roomy, Lists, finishIn};
 ghost use Rattle.contraction.specs.Trail.{Trails};
 use super::ContractAnswer;
-use super::directory;
 use super::normal;
 use super::survey;
 use super::write;
 use table::FitAnswer;
 
-// The labels do not fit the buffer, or their entries do not fit either slice.
+// Whether the labels do not fit the buffer, or their entries do not fit one of the two slices.
 fn lacks_room(buffer: usize, starts: usize, lengths: usize, bases: usize, labels: usize) -> bool
     ensures { λ r. ⌜ r ≡ (ltb buffer bases || ltb starts labels || ltb lengths labels) ⌝ }
 {
@@ -48,7 +47,8 @@ fn write_list(
     normal::normalize_unitigs(labels, starts, lengths, count)
 }
 
-// A fit table of as many vertices as there are marks. All walks are followed before the first byte is written.
+// A fit table of as many vertices as there are marks. All walks are followed before the first byte is written: the trail has two
+// bytes for each of at most 65,536 vertices, which is enough.
 fn contract_fit(
     k: usize,
     cutoff: u32,
@@ -59,14 +59,12 @@ fn contract_fit(
     lengths: &mut [u32],
     marks: &mut [u8],
 ) -> ContractAnswer
-    requires { ⌜ Table k (now keys) (now counts) (now marks) ⌝ }
+    requires { ⌜ FitTable k (now keys) (now counts) (now marks) ⌝ }
     ensures { λ r. ⌜ Contracts r (now (labels .exit)) (now (starts .exit)) (now (lengths .exit)) (now (marks .exit)) (finishIn k cutoff (length (now (marks .entry))) (now (keys .entry)) (now (counts .entry)) (now (labels .entry)) (now (starts .entry)) (now (lengths .entry)) (now (marks .entry))) ⌝ }
 {
-    let mut directory = [0u32; 4097];
     let mut trail = [0u8; 131072];
     marks::digest(counts, cutoff, marks);
-    directory::make(k, marks.len(), keys, &mut directory);
-    let all = survey::survey(k, keys, &directory, marks, &mut trail);
+    let all = survey::survey(k, keys, marks, &mut trail);
     if all.missing {
         marks::clear(marks);
         return ContractAnswer::MissingVertex;
@@ -100,7 +98,7 @@ fn contract_first(
     lengths: &mut [u32],
     marks: &mut [u8],
 ) -> ContractAnswer
-    requires { ⌜ (n ≤ length (now marks)) × Table k (now keys) (now counts) (take n (now marks)) ⌝ }
+    requires { ⌜ (n ≤ length (now marks)) × FitTable k (now keys) (now counts) (take n (now marks)) ⌝ }
     ensures { λ r. ⌜ Contracts r (now (labels .exit)) (now (starts .exit)) (now (lengths .exit)) (now (marks .exit)) (finishIn k cutoff n (now (keys .entry)) (now (counts .entry)) (now (labels .entry)) (now (starts .entry)) (now (lengths .entry)) (now (marks .entry))) ⌝ }
 {
     contract_fit(
@@ -115,7 +113,7 @@ fn contract_first(
     )
 }
 
-// The unitigs of a table at a cutoff: the refusals 1, 5, 7, 8, 9.
+// The unitigs of a table at a cutoff, or the first of the refusals 1, 5, 7, 8, 9 that is due.
 pub fn contract(
     k: usize,
     cutoff: u32,

@@ -49,7 +49,7 @@ pub(crate) fn spell(
     buffer: &mut [u8],
     at: usize,
 ) -> Walked
-    requires { ⌜ Ready k (now keys) (now marks) × (length (now directory) ≡ 4097) × (anchor < length (now marks)) × (at + length (walkIn k (now keys) (now marks) anchor start .bases) ≤ length (now buffer)) ⌝ }
+    requires { ⌜ Ready k (now keys) (now marks) × (anchor < length (now marks)) × (at + length (walkIn k (now keys) (now marks) anchor start .bases) ≤ length (now buffer)) ⌝ }
     ensures { λ r. ⌜ Spells k (now (keys .entry)) (now (marks .entry)) anchor start r (now (marks .exit)) (now (buffer .entry)) at (now (buffer .exit)) ⌝ }
 {
     let mut bases: usize = 0;

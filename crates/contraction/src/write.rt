@@ -12,7 +12,7 @@ ghost use Rattle.graph.specs.Labels.{lesser};
 ghost use Rattle.graph.specs.Contraction.{endToEnd};
 ghost use Rattle.contraction.specs.Ready.{Ready, runIn};
 ghost use Rattle.contraction.specs.Says.{WritesLabel, Writes, Roomy};
-ghost use Rattle.contraction.specs.Trail.{Ends, letterCount, Piece, labelFrom, Trails};
+ghost use Rattle.contraction.specs.Trail.{Ended, letterCount, Piece, labelFrom, Trails};
 use super::CLOSED;
 use super::SKIPPED;
 use super::Written;
@@ -36,9 +36,9 @@ pub(crate) fn canonicalize_part(buffer: &mut [u8], at: usize, n: usize)
     strands::canonical_label(&mut buffer[at..end]);
 }
 
-// How many letters a walk has in the trail, up to the byte that ends it.
+// How many letters a walk has in the trail, up to the byte that ends it: a letter is above all three bytes that are none.
 fn walk_length(trail: &[u8], from: usize) -> usize
-    requires { ⌜ Ends (drop from (now trail)) ⌝ }
+    requires { ⌜ Ended (drop from (now trail)) ⌝ }
     ensures { λ r. ⌜ r ≡ letterCount (drop from (now (trail .entry))) ⌝ }
 {
     let mut i: usize = 0;

@@ -1,4 +1,4 @@
 pub mod Keyed
 pub mod Words
-pub mod Rows
+pub mod Columns
 pub mod Sorted

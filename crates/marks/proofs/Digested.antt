@@ -43,6 +43,7 @@ module _ (cutoff : ℕ) where
       let z : mark w / 64 ≡ 0 = omega (arith, mark-small w) in
       ap₂ (λ (x : ℕ) (xs : List ℕ). x ∷ xs) z (marks-clean ws)
 
+  -- Each end is E, a base or N.
   pub known : (ws : List ℕ) (v : ℕ) (s : Side) → edge (map (endsOf fourBits cutoff) ws) v s ≤ 5
   known [] v Front = omega arith
   known [] v Back = omega arith

@@ -1,10 +1,10 @@
 -- Each cell of a slice computed anew, one after the other. Assumes nothing.
 use mathlib.Core.Path.{_≡_, sym, ap, _∙_}
-use mathlib.Core.List.{List, map, append-nil}
+use mathlib.Core.List.{List, map}
 use Prim.Native.Nat.{ℕ, suc, _+_, _≤_, _<_, min}
 use native.Mathlib.Omega.{arith}
 use lib.ListN.{length, getD, take, drop, set, replicate, length-map, length-take, length-replicate, getD-replicate}
-use lib.Seq.{length-take-le, drop-cons, getD-at, getD-take, drop-length}
+use lib.Seq.{length-take-le, drop-cons, getD-at, getD-take}
 use Rattle.lemmas.proofs.Building.{Built, built-more, built-all}
 use Rattle.lemmas.proofs.Lists.{getD-map}
 use Rattle.dna.specs.Text.{over}
@@ -18,7 +18,7 @@ module _ (text slice₀ slice : List ℕ) (i : ℕ) (b : Built text slice₀ sli
       (getD-at (take i text) (getD slice₀ i 0) (drop (suc i) slice₀) 0 i (length-take-le i text (b .within)))
 
   built-whole : length text ≡ length slice₀ → length slice₀ ≤ i → slice ≡ text
-  built-whole e h = built-all text slice₀ slice i b (omega arith) ∙ rw (e, drop-length, append-nil)
+  built-whole e h = built-all text slice₀ slice i b (omega arith) ∙ over-all text slice₀ e
 
 module _ (f : ℕ → ℕ) (slice₀ slice : List ℕ) (i : ℕ) (b : Built (map f slice₀) slice₀ slice i) where
   -- Each cell computed from itself.
@@ -52,6 +52,7 @@ module _ (f : ℕ → ℕ) (ws slice₀ : List ℕ) where
     pub first-all : min (length slice₀) (length ws) ≤ i → slice ≡ over first slice₀
     first-all h = built-all first slice₀ slice i b (omega (arith, length-first))
 
+-- Each cell set to 0.
 module _ (slice₀ slice : List ℕ) (i : ℕ) (b : Built (replicate (length slice₀) 0) slice₀ slice i) where
   pub zeros-more : i < length slice₀ → Built (replicate (length slice₀) 0) slice₀ (set slice i 0) (i + 1)
   zeros-more h =

@@ -17,7 +17,7 @@ use Rattle.marks.proofs.Marking.{edge-is, visited-is, edge-past, visite
 
 -- Vertex w, come to by base b, would be entered by side t.
 module _ (ms : List ℕ) (a : ℕ) (start : Side) (w : ℕ) (t : Side) (b : ℕ) where
-  -- So the walk goes on, whatever the keys.
+  -- What the walk then does, whatever K and the keys.
   abbrev Enters : Step → Type 0
   Enters r = (K : ℕ) (ks : List ℕ) → r ≡ enter K ks (ends ms) a start (visits ms) w t b
 

@@ -22,7 +22,7 @@ endsMarked m = record { front = endIn m Front; back = endIn m Back }
 unfoldable pub ends : List ℕ → List Ends
 ends ms = map endsMarked ms
 
--- 1 for each visited vertex and 0 for the rest.
+-- What marks hold above the ends: 1 for a visited vertex and 0 for the rest, where marks are below 128, as contraction makes them.
 unfoldable pub visits : List ℕ → List ℕ
 visits ms = map (λ m. m / 64) ms
 

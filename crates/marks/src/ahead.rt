@@ -46,8 +46,8 @@ fn closes(anchor: usize, start: Side, vertex: usize, side: Side) -> bool
     false
 }
 
-// A vertex with this mark would be entered by a side, with a base: the walk stops if that side retains several edges, or if the
-// vertex is visited; else it goes on by the opposite side. A vertex past the marks has no edge and is not visited.
+// Vertex w would be entered by a side, come to by a base: the walk stops if that side retains several edges, or if the vertex is
+// visited; else it goes on by the opposite side. A vertex past the marks has no edge and is not visited. K and the keys play no part.
 pub fn enter(marks: &[u8], anchor: usize, start: Side, w: usize, side: Side, base: u8) -> Step
     ensures { λ r. ⌜ ((K : ℕ) (ks : List ℕ) → r ≡ entered K ks (ends (now (marks .entry))) anchor start (visits (now (marks .entry))) w side base) ⌝ }
 {
@@ -67,7 +67,7 @@ pub fn enter(marks: &[u8], anchor: usize, start: Side, w: usize, side: Side, bas
     }
 }
 
-// A vertex that is no anchor: visited or isolated, or past the marks.
+// Whether vertex a is no anchor: visited or isolated, or past the marks.
 pub fn is_skipped(marks: &[u8], a: usize) -> bool
     ensures { λ r. ⌜ r ≡ (visited (visits (now (marks .entry))) a || isolated (ends (now (marks .entry))) a) ⌝ }
 {

@@ -37,7 +37,7 @@ pub fn digest(counts: &[u32], cutoff: u32, marks: &mut [u8])
     }
 }
 
-// 1 for each visited vertex and 0 for the rest.
+// Each mark without its edges: 1 for a visited vertex and 0 for the rest, where marks are below 128, as contraction makes them.
 pub fn settle(marks: &mut [u8])
     ensures { λ _. ⌜ now (marks .exit) ≡ visits (now (marks .entry)) ⌝ }
 {
@@ -48,6 +48,7 @@ pub fn settle(marks: &mut [u8])
     }
 }
 
+// All marks 0.
 pub fn clear(marks: &mut [u8])
     ensures { λ _. ⌜ now (marks .exit) ≡ replicate (length (now (marks .entry))) 0 ⌝ }
 {

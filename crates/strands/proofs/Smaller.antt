@@ -28,7 +28,7 @@ module _ (s : List ℕ) (i x : ℕ) (h : i < length s) (f : Alike (reverseComple
   pub alike-here : x ≤ getD s i 0 → getD s i 0 ≤ x → Alike (reverseComplement s) s (i + 1)
   alike-here l m = alike-more (reverseComplement s) s i f (omega (arith, there))
 
--- Both strands are one.
+-- Alike to the end, the other strand does not come first.
 pub alike-whole : (s : List ℕ) (i : ℕ) → length s ≤ i → Alike (reverseComplement s) s i → before (reverseComplement s) s ≡ false
 alike-whole s i h f =
     before-end (reverseComplement s) s i f (inr h) ∙ le-ltb (length (reverseComplement s)) (length s) (omega (arith, length-reverseComplement s))

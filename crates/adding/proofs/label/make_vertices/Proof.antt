@@ -15,7 +15,7 @@ group-requires c κs =
     let long = gathers .gather .kept .1 .1 .1 .1 in
     rowed {ks = keysOf (s .args .n) (s .args .keys .now)} (y .0 .given) (gathers .gather .ensures)
     (rw (long .1 .1 .0) (y .0 .room-keys)) (rw (long .1 .1 .1 .0) (y .0 .room-offsets))
-    (sorts .sort-rows .ensures) (sorts .sort-rows .kept .0) (sorts .sort-rows .kept .1 .0)
+    (sorts .sort-rows .ensures) (sorts .sort-rows .kept .1 .0) (sorts .sort-rows .kept .1 .1 .0)
     (omega (arith, y .0 .room-notes, long .0)) (omega (arith, y .0 .room-places, long .1 .0)) (y .1) (y .2)
 
 returns : tie.Need-returns
@@ -30,7 +30,7 @@ returns c =
     let z = sorts .sort-rows in (
       gathers .gather .ensures .looked,
       sorted-grouped {ks = ks} (y .given) (gathers .gather .ensures)
-          (rw (long .0) (y .room-keys)) (rw (long .1 .0) (y .room-offsets)) (z .ensures) (z .kept .0) (z .kept .1 .0)
+          (rw (long .0) (y .room-keys)) (rw (long .1 .0) (y .room-offsets)) (z .ensures) (z .kept .1 .0) (z .kept .1 .1 .0)
           (groups .group .ensures (s .args .k) (s .args .label .now) ks),
     )
 

@@ -14,16 +14,15 @@ leave-requires c κs =
     let a = s .args in
     let kept = ends-marking (a .marks .now) (a .v) in (
       ready-still (s .pre .0) kept,
-      s .pre .1,
-      simp length-set (s .pre .2),
-      both-still (a .keys .now) (a .marks .now) _ (a .v) (a .side) kept (s .pre .4),
+      simp length-set (s .pre .1),
+      both-still (a .keys .now) (a .marks .now) _ (a .v) (a .side) kept (s .pre .3),
     )
 
 returns : tie.Need-returns
 returns c =
     let left = c .before .before .before .before in
     let s = left .before .before .before .before .before .before in
-    advanced-on (s .args .anchor) (s .args .start) (s .args .v) (s .args .side) (left .leave .ensures) (s .pre .3)
+    advanced-on (s .args .anchor) (s .args .start) (s .args .v) (s .args .side) (left .leave .ensures) (s .pre .2)
     (c .before .before .vertex .given .1) (c .extend .ensures)
 
 returns-2 : tie.Need-returns-2

@@ -11,7 +11,7 @@ returns c =
     let less = c .before .before in
     let s = less .before .before .before .before .before .before in
     let a = s .args in
-    arrive-turned (a .k) (a .keys .now) (a .marks .now) (a .anchor) (a .start) (valueOf (a .next .here)) (a .base) (s .pre .2 .other)
+    arrive-turned (a .k) (a .keys .now) (a .marks .now) (a .anchor) (a .start) (valueOf (a .next .here)) (a .base) (s .pre .1 .other)
     (sym (less .is-less .ensures) ∙ c .before .if1 .taken) (c .look .ensures)
 
 returns-2 : tie.Need-returns-2
@@ -19,7 +19,7 @@ returns-2 c =
     let less = c .before .before in
     let s = less .before .before .before .before .before .before in
     let a = s .args in
-    arrive-straight (a .k) (a .keys .now) (a .marks .now) (a .anchor) (a .start) (valueOf (a .next .here)) (a .base) (s .pre .2 .other)
+    arrive-straight (a .k) (a .keys .now) (a .marks .now) (a .anchor) (a .start) (valueOf (a .next .here)) (a .base) (s .pre .1 .other)
     (sym (less .is-less .ensures) ∙ c .before .if1 .left) (c .look2 .ensures)
 
 pub arrive-spec : {M : Type 1} → statement M

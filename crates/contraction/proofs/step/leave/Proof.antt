@@ -11,19 +11,19 @@ returns : tie.Need-returns
 returns c =
     let s = c .before .before .before .before .before .before in
     let a = s .args in
-    leave-none (s .pre .0) (a .anchor) (a .start) (a .v) (a .side) (s .pre .2) (c .before .edge-in .ensures) (c .if1 .taken)
+    leave-none (s .pre .0) (a .anchor) (a .start) (a .v) (a .side) (s .pre .1) (c .before .edge-in .ensures) (c .if1 .taken)
 
 returns-2 : tie.Need-returns-2
 returns-2 c =
     let s = c .before .before .before .before .before .before .before in
     let a = s .args in
-    leave-several (s .pre .0) (a .anchor) (a .start) (a .v) (a .side) (s .pre .2) (c .before .before .edge-in .ensures) (c .if2 .taken)
+    leave-several (s .pre .0) (a .anchor) (a .start) (a .v) (a .side) (s .pre .1) (c .before .before .edge-in .ensures) (c .if2 .taken)
 
 leaving-base-requires : tie.Need-leaving-base-requires
 leaving-base-requires c κs =
     let s = c .before .before .before .before .before .before .before in
     let a = s .args in
-    leave-base (s .pre .0) (a .anchor) (a .start) (a .v) (a .side) (s .pre .2)
+    leave-base (s .pre .0) (a .anchor) (a .start) (a .v) (a .side) (s .pre .1)
     (c .before .before .edge-in .ensures) (c .before .if1 .left) (c .if2 .left)
 
 rolled-requires : tie.Need-rolled-requires
@@ -32,15 +32,15 @@ rolled-requires c κs =
     let s = read .before .before .before .before .before in
     let a = s .args in
     let code =
-    leave-code (s .pre .0) (a .anchor) (a .start) (a .v) (a .side) (s .pre .2)
+    leave-code (s .pre .0) (a .anchor) (a .start) (a .v) (a .side) (s .pre .1)
     (read .edge-in .ensures) (c .before .before .if1 .left) (c .before .if2 .left)
     (codeIn (c .leaving-base .result)) (c .leaving-base .ensures) in
-    (s .pre .0 .ok, code, both-here (s .pre .3))
+    (s .pre .0 .ok, code, both-here (s .pre .2))
 
 arrive-requires : tie.Need-arrive-requires
 arrive-requires c κs =
     let s = c .before .before .before .before .before .before .before .before .before .before in
-    (s .pre .0, s .pre .1, both-here (c .before .rolled .ensures))
+    (s .pre .0, both-here (c .before .rolled .ensures))
 
 returns-3 : tie.Need-returns-3
 returns-3 c =
@@ -49,10 +49,10 @@ returns-3 c =
     let read = left .before .before .before in
     let s = read .before .before .before .before .before in
     let a = s .args in
-    leave-on (s .pre .0) (a .anchor) (a .start) (a .v) (a .side) (s .pre .2)
+    leave-on (s .pre .0) (a .anchor) (a .start) (a .v) (a .side) (s .pre .1)
     (read .edge-in .ensures) (left .before .before .if1 .left) (left .before .if2 .left)
     (codeIn (left .leaving-base .result)) (left .leaving-base .ensures)
-    (valueOf (a .strands .here)) (s .pre .3 .here) (next .rolled .ensures .here) (c .before .bits .ensures) (c .arrive .ensures)
+    (valueOf (a .strands .here)) (s .pre .2 .here) (next .rolled .ensures .here) (c .before .bits .ensures) (c .arrive .ensures)
 
 pub leave-spec : {M : Type 1} → statement M
 leave-spec =

@@ -26,7 +26,7 @@ use Rattle.contraction.proofs.survey.extract.Statement.{statement}
 use Rattle.contraction.proofs.survey.extract.Tie as tie
 
 asked : (s : tie.Start) → Asked (s .args .k) (s .args .keys .now) (s .args .marks .now) (s .args .a) (s .args .trail .now) (s .args .at)
-asked s = record { ready = s .pre .0; vertex = s .pre .2; room = s .pre .3 }
+asked s = record { ready = s .pre .0; vertex = s .pre .1; room = s .pre .2 }
 
 left-open : (c : tie.Else1) → closed (c .before .before .before .before .before .before .before .spell .result .last) ≡ false
 left-open c = sym (c .before .is-closed .ensures) ∙ c .if1 .left
@@ -51,7 +51,7 @@ spell-requires : tie.Need-spell-requires
 spell-requires c κs =
     let s = c .before .before .before .before .before .before in
     let room = back-room (asked s) in
-    (s .pre .0, s .pre .1, s .pre .2, omega (arith, room))
+    (s .pre .0, s .pre .1, omega (arith, room))
 
 slice-write-trail : tie.Need-slice-write-trail
 slice-write-trail c =
@@ -59,8 +59,8 @@ slice-write-trail c =
     let s = back .before .before .before .before .before .before .before in
     half-inside (asked s) (back .spell .ensures)
 
-add-t21 : tie.Need-add-t21
-add-t21 c =
+closed-bases : tie.Need-add-t21
+closed-bases c =
     let back = c .before .before .before .before .before .before .before .before in
     let s = back .before .before .before .before .before .before .before in
     omega (arith, ok-bounds (s .args .k) (s .pre .0 .ok) .1, s .pre .0 .few, back .spell .ensures .walks .few)
@@ -87,7 +87,7 @@ spell-requires-2 c κs =
     let s = back .before .before .before .before .before .before .before in
     let y = asked s in
     let w = back .spell .ensures in
-    (front-vertex y w .0, s .pre .1, front-vertex y w .1, front-room y w (left-open tried))
+    (front-vertex y w .0, front-vertex y w .1, front-room y w (left-open tried))
 
 slice-write-trail-3 : tie.Need-slice-write-trail-3
 slice-write-trail-3 c =
@@ -97,8 +97,8 @@ slice-write-trail-3 c =
     let s = back .before .before .before .before .before .before .before in
     end-inside (asked s) (back .spell .ensures) (left-open tried) (front .spell2 .ensures)
 
-add-t28 : tie.Need-add-t28
-add-t28 c =
+front-bases : tie.Need-add-t28
+front-bases c =
     let front = c .before .before .before .before .before .before in
     let back = front .before .before .before .before .before .before .before .before .before .before in
     let s = back .before .before .before .before .before .before .before in
@@ -110,8 +110,8 @@ add-t28 c =
       front .spell2 .ensures .walks .few,
     )
 
-add-t30 : tie.Need-add-t30
-add-t30 c =
+open-bases : tie.Need-add-t30
+open-bases c =
     let front = c .before .before .before .before .before .before .before in
     let back = front .before .before .before .before .before .before .before .before .before .before in
     let s = back .before .before .before .before .before .before .before in
@@ -142,7 +142,7 @@ trail-length : tie.Need-same-length-4
 trail-length c =
     let front = c .before .before .before .before .before .before .before .before .before .before in
     let s = front .before .before .before .before .before .before .before .before .before .before .before .before .before .before .before .before .before in
-    extracts-length (returns-2 c) (s .pre .3)
+    extracts-length (returns-2 c) (s .pre .2)
 
 pub extract-spec : {M : Type 1} → statement M
 extract-spec =
@@ -152,7 +152,7 @@ extract-spec =
     (λ c. omega (arith, half-short (c .before .before .before .before .before)))
     (λ c κs. search needs)
     slice-write-trail
-    add-t21
+    closed-bases
     (λ c. omega (arith, half-short (c .before .before .before .before .before .before .before .before)))
     (λ c. search needs)
     (λ c. search needs)
@@ -163,8 +163,8 @@ extract-spec =
     (λ c. omega (arith, end-short (c .before .before .before .before)))
     (λ c. omega (arith, end-short (c .before .before .before .before .before)))
     slice-write-trail-3
-    add-t28
-    add-t30
+    front-bases
+    open-bases
     (λ c. omega (arith, end-short (c .before .before .before .before .before .before .before)))
     (λ c κs. search needs)
     (λ c κs. search needs)

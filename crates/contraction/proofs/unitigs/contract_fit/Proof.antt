@@ -4,31 +4,20 @@ use mathlib.Core.Path.{_∙_}
 use Prim.Native.Nat.{ℕ}
 use native.Mathlib.Omega.{arith}
 use lib.ListN.{length-replicate}
-use Rattle.kmer.proofs.Bounds.{ok-bounds}
 use Rattle.contraction.proofs.Digested.{ready, clean}
 use Rattle.contraction.proofs.Finishing.{missing-vertex, no-room, writable, contracted}
 use borrow.Author.Needs.{needs}
 use Rattle.contraction.proofs.unitigs.contract_fit.Statement.{statement}
 use Rattle.contraction.proofs.unitigs.contract_fit.Tie as tie
 
-make-requires : tie.Need-make-requires
-make-requires c κs =
-    let d = c .before .before .before in
-    let s = d .before .before .before .before .before .before .before .before in
-    let a = s .args in
-    let r = ready (a .k) (a .cutoff) (a .keys .now) (a .counts .now) (a .marks .now) (s .pre) (d .digest .ensures) in
-    (ok-bounds (a .k) (s .pre .ok) .1, r .few, r .room, length-replicate {A = ℕ} 4097 0)
-
 survey-requires : tie.Need-survey-requires
 survey-requires c κs =
-    let m = c .before .before .before .before in
-    let d = m .before .before .before .before in
+    let d = c .before .before .before .before in
     let s = d .before .before .before .before .before .before .before .before in
     let a = s .args in
     let r = ready (a .k) (a .cutoff) (a .keys .now) (a .counts .now) (a .marks .now) (s .pre) (d .digest .ensures) in (
       r,
       clean (a .k) (a .cutoff) (a .keys .now) (a .counts .now) (a .marks .now) (s .pre) (d .digest .ensures),
-      m .make .kept .1 .1 .1 .0 ∙ length-replicate {A = ℕ} 4097 0,
       omega (arith, r .few, length-replicate {A = ℕ} 131072 0),
     )
 
@@ -37,36 +26,37 @@ returns c =
     let cleared = c .before .before in
     let tried = cleared .before .before in
     let v = tried .before .before .before .before in
-    let d = v .before .before .before .before .before .before .before .before .before in
+    let d = v .before .before .before .before .before in
     let s = d .before .before .before .before .before .before .before .before in
     let a = s .args in
     missing-vertex (a .k) (a .cutoff) (a .keys .now) (a .counts .now) (a .labels .now) (a .starts .now) (a .lengths .now) (a .marks .now)
     (s .pre) (d .digest .ensures) (v .survey .ensures .0) (tried .if1 .taken) (cleared .clear .ensures)
-    (v .survey .kept .1 .1 .1 .0 ∙ d .digest .kept .1 .1 .0)
+    (v .survey .kept .1 .1 .0 ∙ d .digest .kept .1 .1 .0)
 
 returns-2 : tie.Need-returns-2
 returns-2 c =
     let cleared = c .before .before in
     let roomless = cleared .before .before .before in
     let v = roomless .before .before .before .before .before in
-    let d = v .before .before .before .before .before .before .before .before .before in
+    let d = v .before .before .before .before .before in
     let s = d .before .before .before .before .before .before .before .before in
     let a = s .args in
     no-room (a .k) (a .cutoff) (a .keys .now) (a .counts .now) (a .labels .now) (a .starts .now) (a .lengths .now) (a .marks .now)
     (s .pre) (d .digest .ensures) (v .survey .ensures .0) (roomless .before .if1 .left)
     (roomless .lacks-room .ensures) (cleared .before .before .if2 .taken) (cleared .clear2 .ensures)
-    (v .survey .kept .1 .1 .1 .0 ∙ d .digest .kept .1 .1 .0)
+    (v .survey .kept .1 .1 .0 ∙ d .digest .kept .1 .1 .0)
 
 write-list-requires : tie.Need-write-list-requires
 write-list-requires c κs =
     let roomy = c .before .before .before .before .before .before in
     let v = roomy .before .before .before .before .before in
-    let d = v .before .before .before .before .before .before .before .before .before in
+    let d = v .before .before .before .before .before in
     let s = d .before .before .before .before .before .before .before .before in
     let a = s .args in
     writable (a .k) (a .cutoff) (a .keys .now) (a .counts .now) (a .labels .now) (a .starts .now) (a .lengths .now) (a .marks .now)
     (s .pre) (d .digest .ensures) (v .survey .ensures .0) (roomy .before .if1 .left)
-    (roomy .lacks-room .ensures) (c .before .before .before .before .before .if2 .left) _ (omega (arith, length-replicate {A = ℕ} 131072 0)) (v .survey .ensures .1)
+    (roomy .lacks-room .ensures) (c .before .before .before .before .before .if2 .left)
+    _ (omega (arith, length-replicate {A = ℕ} 131072 0)) (v .survey .ensures .1)
 
 returns-3 : tie.Need-returns-3
 returns-3 c =
@@ -74,22 +64,19 @@ returns-3 c =
     let fits = w .before .before .before .before .before .before in
     let roomy = fits .before in
     let v = roomy .before .before .before .before .before in
-    let d = v .before .before .before .before .before .before .before .before .before in
+    let d = v .before .before .before .before .before in
     let s = d .before .before .before .before .before .before .before .before in
     let a = s .args in
     contracted (a .k) (a .cutoff) (a .keys .now) (a .counts .now) (a .labels .now) (a .starts .now) (a .lengths .now) (a .marks .now)
     (s .pre) (d .digest .ensures) (v .survey .ensures .0) (roomy .before .if1 .left)
     (roomy .lacks-room .ensures) (fits .if2 .left) (w .write-list .ensures)
-    (w .write-list .kept .1 .1 .0 ∙ v .survey .kept .1 .1 .1 .0 ∙ d .digest .kept .1 .1 .0)
+    (w .write-list .kept .1 .1 .0 ∙ v .survey .kept .1 .1 .0 ∙ d .digest .kept .1 .1 .0)
 
 pub contract-fit-spec : {M : Type 1} → statement M
 contract-fit-spec =
     tie.close
     (tie.spec
     (λ c κs. search needs)
-    (λ c. search needs)
-    make-requires
-    (λ c. search needs)
     (λ c. search needs)
     survey-requires
     (λ c κs. search needs)

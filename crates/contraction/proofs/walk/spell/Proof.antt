@@ -30,8 +30,8 @@ abbrev μ-loop : tie.MeasureT-loop
 loop-holds : tie.Need-loop-holds Inv-loop μ-loop
 loop-holds c =
     let s = c .before .before .before .before .before .before in (
-      walking-start (s .pre .0) (s .args .anchor) (s .args .start) (s .pre .2),
-      spelling-start _ _ (s .args .at) (s .pre .3),
+      walking-start (s .pre .0) (s .args .anchor) (s .args .start) (s .pre .1),
+      spelling-start _ _ (s .args .at) (s .pre .2),
       c .strands-of .ensures,
     )
 
@@ -41,7 +41,6 @@ advance-requires c κs =
     let g = l .inv .0 in
     let s = c .before .before .before .before .before .before .before .before in (
       ready-still (g .ready) (g .kept),
-      s .pre .1,
       omega (arith, g .below, ends-length _ _ (g .kept)),
       g .anchored,
       both-still (s .args .keys .now) (s .args .marks .now) _ (l .v) (l .s) (g .kept) (l .inv .2),

@@ -52,7 +52,7 @@ open-short c =
     omega (arith, fits-open (legible w) (c .before .if1 .left) (c .walk-length2 .ensures), w .before .before .before .good)
 
 walk-length-requires : tie.Need-walk-length-requires
-walk-length-requires c κs = record { within = c .before .before .pre .2 .back-ends }
+walk-length-requires c κs = c .before .before .pre .2 .back-ends
 
 shared-slice-read-if1 : tie.Need-shared-slice-read-if1
 shared-slice-read-if1 c = back-inside (legible (c .before))
