@@ -54,8 +54,3 @@ pub record WritesFasta (r : ℕ) (out figures₀ figures′ : List ℕ) (f : Fil
   pub number : r ≡ numberOf (f .answer)
   pub figures-after : figures′ ≡ noted (figures ofSize (f .answer)) figures₀
   pub out-after : out ≡ f .slice
-
--- Opens this file's definitions to a proof that computes.
-unfoldable pub openSays : Unit {0}
-unfolding noted
-openSays = tt

@@ -1,13 +1,12 @@
 -- The customer's demand 3 as a fact about every run of the code: a table made by calls of `add_label`, and a call of `contract` over it that is
 -- not refused. Assumes nothing.
-use mathlib.Core.Path.{_≡_, sym, ap, ap₂, _∙_, subst}
-use mathlib.Core.List.{List, [], _∷_}
+use mathlib.Core.Path.{_≡_, sym, ap, _∙_}
+use mathlib.Core.List.{List, []}
 use Prim.Native.Nat.{ℕ}
-use Rattle.dna.specs.Answer.{gives, refuses}
+use Rattle.dna.specs.Answer.{gives}
 use Rattle.state.specs.Counted.{fourBits}
-use Rattle.graph.specs.Table.{tableOf, keysOf, fit}
+use Rattle.graph.specs.Table.{tableOf, keysOf}
 use Rattle.graph.specs.Sightings.{sameCanonical}
-use Rattle.graph.specs.Adding.{Edges, addLabel}
 use Rattle.graph.specs.Contraction.{Totals, Contracted, endsIn, contract}
 use Rattle.adding.specs.Says.{addAnswer}
 use Rattle.contraction.specs.declared.ContractAnswer.{ContractAnswer}

@@ -1,6 +1,6 @@
 -- Which index entries lie within the labels, entry by entry. Assumes nothing.
 use mathlib.Core.Path.{_≡_, refl}
-use mathlib.Core.Bool.{Bool, true, false, false≢true}
+use mathlib.Core.Bool.{true, false≢true}
 use mathlib.Core.List.{List, [], _∷_}
 use Prim.Native.Nat.{ℕ, zero, suc, _+_, _≤_, _<_}
 use native.Mathlib.Nat.{le-of-suc-le-suc, not-suc-le-zero}
@@ -45,8 +45,3 @@ module _ (labels : List ℕ) where
   within-all (suc count) (s ∷ starts) (n ∷ lengths) a b h =
       rw (le-leb (s + n) (length labels) (h 0 (omega arith)))
       (within-all count starts lengths (le-of-suc-le-suc a) (le-of-suc-le-suc b) (λ i l. h (suc i) (omega arith)))
-
--- A test that cannot hold.
-pub refuted : (t : Bool) → (t ≡ true → ⊥) → false ≡ t
-refuted true h = absurd (h refl)
-refuted false h = refl

@@ -17,7 +17,7 @@ use Rattle.fasta.specs.Sizes.{sizeOf}
 pub length-record : (label : List ℕ) → length (recordOf label) ≡ length label + 4
 length-record label = simp length-append (omega arith)
 
--- One size more.
+-- The size of one record more.
 pub sizes-next : (i : ℕ) (lengths : List ℕ) → i < length lengths → sizeOf (i + 1) lengths ≡ sizeOf i lengths + (getD lengths i 0 + 4)
 unfolding sizeOf
 sizes-next i lengths h = ap (λ (k : ℕ). sizeOf k lengths) (add-one i) ∙ go i lengths h
@@ -56,6 +56,7 @@ module _ (labels : List ℕ) where
           ap (λ (l : List ℕ). first ++ l) (go i starts lengths (le-of-suc-le-suc hs) (le-of-suc-le-suc hl))
           ∙ sym (append-assoc first (records labels i starts lengths) (recordOf (labelAt starts lengths i)))
 
+  -- The label of an entry that lies within the labels.
   pub length-label : (s n : ℕ) → s + n ≤ length labels → length (take n (drop s labels)) ≡ n
   length-label s n h = simp (length-take, length-drop) (omega arith)
 

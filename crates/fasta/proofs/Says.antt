@@ -1,11 +1,13 @@
--- The enum's definition tells its cases apart, and what each answer has to show. Assumes nothing.
-use mathlib.Core.Path.{_≡_, refl}
+-- The enum's definition tells its cases apart, so the call's contract allows one answer and one content of the slice; what each answer
+-- has to show. Assumes nothing.
+use mathlib.Core.Path.{_≡_, refl, sym, _∙_}
 use mathlib.Core.Bool.{true, false}
 use mathlib.Core.List.{List}
 use Prim.Native.Nat.{ℕ, _≤_, _<_}
 use borrow.Author.Tests.{lt-ltb, le-ltb}
 use lib.ListN.{length}
 use Rattle.dna.specs.Text.{over}
+use Rattle.dna.specs.Answer.{Filled}
 use Rattle.graph.specs.Fasta.{records, within, fasta}
 use Rattle.fasta.specs.Sizes.{sizeOf}
 use Rattle.fasta.specs.Says.{fastaAnswer, Lists}
@@ -13,7 +15,6 @@ use Rattle.fasta.proofs.Records.{records-size}
 use Rattle.fasta.specs.declared.FastaAnswer.{FastaAnswer}
 use Rattle.fasta.specs.declared.FastaAnswer.the-variants.{Written, NoRoom, OutOfLabels}
 
--- What was done is known by its answer.
 pub fasta-inj : (a b : FastaAnswer) → fastaAnswer a ≡ fastaAnswer b → a ≡ b
 fasta-inj (Written n) (Written m) h = cc
 fasta-inj (Written n) NoRoom h = cc
@@ -24,6 +25,9 @@ fasta-inj NoRoom OutOfLabels h = cc
 fasta-inj OutOfLabels (Written m) h = cc
 fasta-inj OutOfLabels NoRoom h = cc
 fasta-inj OutOfLabels OutOfLabels h = refl
+
+pub lists-one : (r s : FastaAnswer) {out out′ : List ℕ} {f : Filled} → Lists r out f → Lists s out′ f → (r ≡ s) × (out ≡ out′)
+lists-one r s p q = (fasta-inj r s (p .answer ∙ sym (q .answer)), p .slice ∙ sym (q .slice))
 
 module _ (labels starts lengths : List ℕ) (count : ℕ) (slice : List ℕ) where
   -- An entry is not there or lies past the labels.

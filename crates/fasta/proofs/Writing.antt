@@ -1,4 +1,4 @@
--- The records written so far. Assumes nothing.
+-- The records written so far: none, one more, all. Assumes nothing.
 use mathlib.Core.Path.{_≡_, refl, sym, ap, _∙_}
 use mathlib.Core.Bool.{true}
 use mathlib.Core.List.{List, _++_}

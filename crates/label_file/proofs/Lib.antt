@@ -1,4 +1,5 @@
 pub mod Marks
+pub mod Reaching
 pub mod Remaining
 pub mod Digits
 pub mod Lines

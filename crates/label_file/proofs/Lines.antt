@@ -1,8 +1,8 @@
 -- The line of a refusal, and a line put into a text. Assumes nothing.
-use mathlib.Core.Path.{_≡_, refl, subst, _∙_}
+use mathlib.Core.Path.{_≡_, refl, sym, subst, _∙_}
 use mathlib.Core.Bool.{Bool, true, false, cond}
 use mathlib.Core.List.{List, [], _∷_}
-use Prim.Native.Nat.{ℕ, suc, _-_, _≤_, _<_}
+use Prim.Native.Nat.{ℕ, suc, _-_, _≤_}
 use native.Mathlib.Omega.{arith}
 use borrow.Rule.Slice.PartAt.{part-to-end}
 use lib.Dec.{ltb}
@@ -17,6 +17,7 @@ use Rattle.label_file.specs.Says.{Fills, Prefixes}
 use Rattle.label_file.specs.declared.ListAnswer.{ListAnswer}
 use Rattle.label_file.specs.declared.ListAnswer.the-variants.{Printed, NoRoom}
 use Rattle.label_file.proofs.Digits.{drop-set}
+use Rattle.label_file.proofs.Outcomes.{ungiven}
 
 -- `second` and `third` are the line with the record's number, from place i on, and with the refusal's number, from place j on.
 module _ (line second third : List ℕ) (number at i j : ℕ) (l : length line ≡ 64)
@@ -50,21 +51,21 @@ module _ (line second third : List ℕ) (number at i j : ℕ) (l : length line �
       drop-set (set third (j - 1) 32) (j - 2) 82 (simp length-set (omega arith)) ∙ rw (ej₂, behind)
 
 -- What a copy of a line answers, as the listing's answer.
-abbrev pub printing : Written → ListAnswer
-printing (written.Done n) = Printed n
-printing written.NoRoom = NoRoom
+abbrev pub printedBy : Written → ListAnswer
+printedBy (written.Done n) = Printed n
+printedBy written.NoRoom = NoRoom
 
 refilled : (t : Bool) (n : ℕ) (text text′ after : List ℕ) (r : Written)
     → Writes r after (cond t (record { answer = refuses 9 []; slice = text }) (record { answer = gives n; slice = text′ }))
-    → Fills (printing r) after (cond t (record { answer = refuses 11 []; slice = text }) (record { answer = gives n; slice = text′ }))
-refilled true n text text′ after (written.Done m) w = let e = w .answer in let z : _≡_ {A = ℕ} 0 1 = cc in absurd (omega arith)
+    → Fills (printedBy r) after (cond t (record { answer = refuses 11 []; slice = text }) (record { answer = gives n; slice = text′ }))
+refilled true n text text′ after (written.Done m) w = ungiven m 9 [] (w .answer)
 refilled true n text text′ after written.NoRoom w = record { answer = refl; text-after = w .slice }
 refilled false n text text′ after (written.Done m) w = record { answer = w .answer; text-after = w .slice }
-refilled false n text text′ after written.NoRoom w = let e = w .answer in let z : _≡_ {A = ℕ} 0 1 = cc in absurd (omega arith)
+refilled false n text text′ after written.NoRoom w = ungiven n 9 [] (sym (w .answer))
 
 -- A copy of a line and the line printed differ in the refusal's number only.
 pub fills-copied : (line text : List ℕ) {after : List ℕ} (r : Written) → Writes r after (fill 9 line text)
-    → Fills (printing r) after (fill 11 line text)
+    → Fills (printedBy r) after (fill 11 line text)
 fills-copied line text r w = refilled (ltb (length text) (length line)) (length line) text (over line text) _ r w
 
 -- The end of the line of 64 bytes, put into the text.

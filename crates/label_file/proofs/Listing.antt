@@ -2,7 +2,6 @@
 use mathlib.Core.Path.{_≡_, refl, sym, ap, subst, _∙_}
 use mathlib.Core.List.{List}
 use Prim.Native.Nat.{ℕ}
-use native.Mathlib.Omega.{arith}
 use lib.Dec.{ltb}
 use lib.ListN.{length}
 use Rattle.dna.specs.Answer.{gives, refuses, Filled, fill}
@@ -20,10 +19,7 @@ use Rattle.label_file.specs.declared.ListAnswer.{ListAnswer}
 use Rattle.label_file.specs.declared.ListAnswer.the-variants.{Printed}
 use Rattle.contraction.specs.declared.ContractAnswer.{ContractAnswer}
 use Rattle.label_file.specs.declared.Outcome.the-variants.{Given, Refused}
-use Rattle.label_file.proofs.Outcomes.{outcome-gives, outcome-refuses}
-
-ungiven : {P : Type 0} (n r : ℕ) (vs : List ℕ) → gives n ≡ refuses r vs → P
-ungiven n r vs h = let z : _≡_ {A = ℕ} 0 1 = cc in absurd (omega arith)
+use Rattle.label_file.proofs.Outcomes.{ungiven, outcome-gives, outcome-refuses}
 
 module _ (labels starts lengths : List ℕ) (count : ℕ) (text : List ℕ) where
   -- A list that is refused leaves the text.

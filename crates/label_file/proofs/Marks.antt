@@ -14,6 +14,7 @@ use Rattle.lemmas.proofs.Numbers.{lt-or-ge}
 use Rattle.lemmas.proofs.Tests.{both}
 use Rattle.label_file.specs.LabelFile.{marked, two, headed, labelled}
 
+-- A label of n bytes ends within the file: its end counted from the file's beginning, and from its record's.
 same-room : (n at room : ℕ) → at ≤ room → leb (at + 4 + n) room ≡ leb (4 + n) (room - at)
 same-room n at room h = ⊎-elim none all (lt-or-ge room (at + 4 + n))
   where

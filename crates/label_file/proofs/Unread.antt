@@ -7,15 +7,12 @@ use Prim.Native.Nat.{ℕ, _+_, _-_, _≤_, _<_}
 use native.Mathlib.Omega.{arith}
 use borrow.Author.Tests.{leb-true}
 use lib.Dec.{leb}
-use lib.ListN.{length, take, drop, length-drop, drop-of-length-le}
-use lib.Seq.{drop-drop}
+use lib.ListN.{length, take, drop}
 use Rattle.lemmas.proofs.Numbers.{true-or-false}
 use Rattle.lemmas.proofs.Tests.{both}
-use Rattle.label_file.specs.LabelFile.{LabelFile, damaged, holds, two, headed, labelled, with, labelsFrom}
-use Rattle.label_file.specs.LabelFile.{kIn, cutoffIn, fileOf, labelsOf}
+use Rattle.label_file.specs.LabelFile.{LabelFile, damaged, holds, two, headed, labelled, with, kIn, cutoffIn, fileOf, labelsOf}
 use Rattle.label_file.specs.Says.{Sound}
-use Rattle.label_file.proofs.Marks.{two-at, headed-long, labelled-room}
-use Rattle.label_file.proofs.Remaining.{labels-none, labels-bad, labels-next}
+use Rattle.label_file.proofs.Reaching.{Reached, reached-first, next-room, reached-next, saysFrom, from-none, from-bad, from-next}
 
 -- No file is both.
 undamaged : {P : Type 0} {i K cutoff : ℕ} {labels : List (List ℕ)} (f : LabelFile) → f ≡ damaged i → f ≡ holds K cutoff labels → P
@@ -24,11 +21,8 @@ undamaged f p q = let z : _≡_ {A = ℕ} 0 1 = cc in absurd (omega arith)
 -- The records of the file from number i on, at place `at`, hold the labels `rest`.
 pub record Unread (file : List ℕ) (i at : ℕ) (rest : List (List ℕ)) : Type 0 where
   pub most : ℕ
-  pub enough : length file ≤ at + most
-  pub within : at ≤ length file
-  pub short : length file ≤ 16384
-  pub few : i ≤ at
-  pub hold : labelsFrom (kIn file) (cutoffIn file) most i (drop at file) ≡ holds (kIn file) (cutoffIn file) rest
+  pub place : Reached file i at most
+  pub hold : saysFrom file i at most ≡ holds (kIn file) (cutoffIn file) rest
 
 pub unread-all : (file : List ℕ) → Sound file → Unread file 1 7 (labelsOf (fileOf file))
 unfolding fileOf
@@ -40,13 +34,10 @@ unread-all file s = ⊎-elim sound broken (true-or-false (leb (length file) 1638
     sound : leb (length file) 16384 && headed file ≡ true → Unread file 1 7 (labelsOf (fileOf file))
     sound t =
         let b = both (leb (length file) 16384) (headed file) t in
-        let whole : fileOf file ≡ labelsFrom (kIn file) (cutoffIn file) (length file) 1 (drop 7 file) = rw t in
+        let whole : fileOf file ≡ saysFrom file 1 7 (length file) = rw t in
         record {
           most = length file;
-          enough = omega arith;
-          within = headed-long file (b .1);
-          short = leb-true (length file) 16384 (b .0);
-          few = omega arith;
+          place = reached-first file (leb-true (length file) 16384 (b .0)) (b .1);
           hold = sym whole ∙ s;
         }
 
@@ -60,48 +51,27 @@ pub record Next (file : List ℕ) (i at size : ℕ) (rest : List (List ℕ)) : T
 module _ {file : List ℕ} {i at : ℕ} {rest : List (List ℕ)} (u : Unread file i at rest) where
   pub unread-none : length file ≤ at → rest ≡ []
   unread-none h =
-      let K = kIn file in
-      let none : holds K (cutoffIn file) [] ≡ holds K (cutoffIn file) rest =
-      sym (labels-none K (cutoffIn file) (u .most) i) ∙ rw (drop-of-length-le file h) at (u .hold) in
+      let none : holds (kIn file) (cutoffIn file) [] ≡ holds (kIn file) (cutoffIn file) rest = sym (from-none (u .place) h) ∙ u .hold in
       cc
 
   pub unread-next : at < length file → (size : ℕ) → size ≡ two file (at + 2) → Next file i at size rest
   unread-next left size s =
       subst (λ (m : ℕ). Next file i at m rest) (sym s) (⊎-elim pass fail (true-or-false (labelled (drop at file))))
     where
-      some : 0 < length (drop at file)
-      some = simp length-drop (omega arith)
-
-      more : 0 < u .most
-      more = omega (arith, u .enough)
-
       fail : labelled (drop at file) ≡ false → Next file i at (two file (at + 2)) rest
-      fail t = undamaged _ (labels-bad (kIn file) (cutoffIn file) (u .most) i (drop at file) more some t) (u .hold)
+      fail t = undamaged _ (from-bad (u .place) left t) (u .hold)
 
-      passed : labelled (drop at file) ≡ true → (f : LabelFile)
-          → labelsFrom (kIn file) (cutoffIn file) (u .most - 1) (i + 1) (drop (at + 4 + two file (at + 2)) file) ≡ f
+      passed : labelled (drop at file) ≡ true → (f : LabelFile) → saysFrom file (i + 1) (at + 4 + two file (at + 2)) (u .most - 1) ≡ f
           → with (take (two file (at + 2)) (drop (at + 4) file)) f ≡ holds (kIn file) (cutoffIn file) rest
           → Next file i at (two file (at + 2)) rest
       passed t (damaged j) e h = undamaged (damaged j) refl h
       passed t (holds K cutoff labels) e h =
-          let room : at + 4 + two file (at + 2) ≤ length file = labelled-room file at (u .within) t in
           record {
             behind = labels;
-            room = room;
+            room = next-room (u .place) left t;
             split = cc;
-            unread = record {
-              most = u .most - 1;
-              enough = omega (arith, u .enough, more);
-              within = room;
-              short = u .short;
-              few = omega (arith, u .few);
-              hold = e ∙ cc;
-            };
+            unread = record { most = u .most - 1; place = reached-next (u .place) left t; hold = e ∙ cc };
           }
 
       pass : labelled (drop at file) ≡ true → Next file i at (two file (at + 2)) rest
-      pass t =
-          let n = two file (at + 2) in
-          let a : at + (4 + n) ≡ at + 4 + n = omega arith in
-          let first = labels-next (kIn file) (cutoffIn file) (u .most) i (drop at file) more some t in
-          passed t _ refl (rw (two-at file at, drop-drop 4 at file, drop-drop (4 + n) at file, a) at (sym first ∙ u .hold))
+      pass t = passed t _ refl (sym (from-next (u .place) left t) ∙ u .hold)

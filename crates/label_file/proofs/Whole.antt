@@ -1,4 +1,5 @@
--- The whole of it: what adding, contraction and the form of the file make of the answer and the buffers. Assumes nothing.
+-- The whole of it: what the form of the file, its K, adding and contraction make of the answer and the buffers; what is known of a
+-- file whose form is right, and which K are out of range. Assumes nothing.
 use mathlib.Core.Path.{_≡_}
 use mathlib.Core.Bool.{false, and-false}
 use mathlib.Core.List.{List}
@@ -66,8 +67,9 @@ says-sound file x s e = rw e at s
 
 -- Such a file has its whole first record.
 pub says-long : (file : List ℕ) (x : Checked) → formSays x file → x ≡ checked.Sound → 7 ≤ length file
-says-long file x s e = unread-all file (says-sound file x s e) .within
+says-long file x s e = unread-all file (says-sound file x s e) .place .within
 
+-- K is below 1, or above 63.
 pub no-K : (k : ℕ) → k < 1 → okK k ≡ false
 no-K k h = rw (lt-leb 1 k h)
 

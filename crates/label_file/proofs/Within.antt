@@ -5,17 +5,17 @@ use mathlib.Core.List.{List}
 use Prim.Native.Nat.{ℕ, _≤_}
 use lib.ListN.{length}
 use Rattle.lemmas.proofs.Tests.{choose}
-use Rattle.dna.specs.Answer.{Answer, gives, refuses, Filled, fill}
+use Rattle.dna.specs.Answer.{Answer, gives, refuses, Filled}
 use Rattle.dna.proofs.Inside.{Inside, refused-inside, fill-inside}
 use Rattle.kmer.specs.Kmer.{okK}
 use Rattle.graph.specs.Contraction.{Contracted}
 use Rattle.graph.specs.Fasta.{within, records, fasta}
 use Rattle.label_file.specs.LabelFile.{LabelFile, damaged, holds, fileOf}
-use Rattle.label_file.specs.Output.{Buffers, Left, withTable, withList, refusal, refused, printed, listed, takeFrom, listAll, output}
+use Rattle.label_file.specs.Output.{Buffers, Left, withList, refusal, refused, printed, listed, takeFrom, listAll, output}
 
 -- What holds of each arm holds of the chosen one.
-either : {A B : Type 0} (P : B → Type 0) (a : Answer A) {f : A → B} {g : ℕ → List ℕ → B} → ((x : A) → P (f x)) → ((r : ℕ) (vs : List ℕ) → P (g r vs))
-    → P (elim a [ gives x ↦ f x | refuses r vs ↦ g r vs ])
+either : {A B : Type 0} (P : B → Type 0) (a : Answer A) {f : A → B} {g : ℕ → List ℕ → B}
+    → ((x : A) → P (f x)) → ((r : ℕ) (vs : List ℕ) → P (g r vs)) → P (elim a [ gives x ↦ f x | refuses r vs ↦ g r vs ])
 either P (gives x) p q = p x
 either P (refuses r vs) p q = q r vs
 

@@ -6,7 +6,7 @@ use lib.Dec.{leb, eqb}
 use lib.ListN.{length, take, drop, getD}
 use Rattle.dna.specs.Text.{bytes}
 
--- What a file says, or the number of its first bad record, from 0.
+-- What a file says, K, the cutoff and the labels, or the number of its first bad record, from 0.
 pub data LabelFile : Type 0 where
   damaged : ℕ → LabelFile
   holds : ℕ → ℕ → List (List ℕ) → LabelFile
@@ -32,7 +32,7 @@ abbrev pub with : List ℕ → LabelFile → LabelFile
 with label (damaged i) = damaged i
 with label (holds K cutoff labels) = holds K cutoff (label ∷ labels)
 
--- Records from number i on, at most so many of them.
+-- What the `LB` records from number i on say, at most so many of them.
 unfoldable pub labelsFrom : ℕ → ℕ → ℕ → ℕ → List ℕ → LabelFile
 labelsFrom K cutoff zero i s = holds K cutoff []
 labelsFrom K cutoff (suc most) i [] = holds K cutoff []
@@ -48,7 +48,7 @@ kIn s = getD s 2 0
 abbrev pub cutoffIn : List ℕ → ℕ
 cutoffIn s = two s 3 + 65536 * two s 5
 
--- A file over 16,384 bytes, an empty one, and one that does not begin with `KC`, is damaged at record 0.
+-- A file over 16,384 bytes, an empty one, and one that does not begin with a whole `KC` record, is damaged at record 0.
 unfoldable pub fileOf : List ℕ → LabelFile
 fileOf s = cond (leb (length s) 16384 && headed s) (labelsFrom (kIn s) (cutoffIn s) (length s) 1 (drop 7 s)) (damaged 0)
 

@@ -9,12 +9,12 @@ use Rattle.dna.specs.Answer.{Answer, gives, refuses, Filled, fill}
 use Rattle.kmer.specs.Kmer.{okK}
 use Rattle.state.specs.Counted.{fourBits}
 use Rattle.graph.specs.Sightings.{sameCanonical}
-use Rattle.graph.specs.Adding.{addLabel, Added, Edges}
+use Rattle.graph.specs.Adding.{addLabel, Edges}
 use Rattle.graph.specs.Contraction.{contract, Contracted, Totals}
 use Rattle.graph.specs.Fasta.{fasta}
-use Rattle.label_file.specs.LabelFile.{LabelFile, damaged, holds, fileOf}
+use Rattle.label_file.specs.LabelFile.{damaged, holds, fileOf}
 
--- A number in decimal, in at most so many digits, in front of a text.
+-- A number in decimal in front of a text: its last digits, at most so many. Twenty are enough for a word of 64 bits.
 unfoldable pub decimal : ℕ → ℕ → List ℕ → List ℕ
 decimal zero x s = s
 decimal (suc most) x s =
@@ -36,6 +36,7 @@ pub record Buffers : Type 0 where
   pub marks : List ℕ
   pub text : List ℕ
 
+-- The buffers whose contents are these lists.
 abbrev pub lent : List ℕ → List ℕ → List ℕ → List ℕ → List ℕ → List ℕ → List ℕ → Buffers
 lent keys counts labels starts lengths marks text = record {
   keys = keys;
@@ -52,13 +53,15 @@ pub record Left : Type 0 where
   pub answer : Answer ℕ
   pub buffers : Buffers
 
+-- The buffers with the table's slices after adding.
 abbrev pub withTable : Buffers → List ℕ → List ℕ → Buffers
 withTable b keys counts = lent keys counts (b .labels) (b .starts) (b .lengths) (b .marks) (b .text)
 
+-- The buffers with what contraction left.
 abbrev pub withList : Buffers → Contracted → Buffers
 withList b c = lent (b .keys) (b .counts) (c .labels) (c .starts) (c .lengths) (c .marks) (b .text)
 
--- A text in the buffers' own.
+-- The buffers with the text that was filled, and the answer of filling it.
 abbrev pub withText : Buffers → Filled → Left
 withText b f = record { answer = f .answer; buffers = lent (b .keys) (b .counts) (b .labels) (b .starts) (b .lengths) (b .marks) (f .slice) }
 
@@ -66,11 +69,11 @@ withText b f = record { answer = f .answer; buffers = lent (b .keys) (b .counts)
 unfoldable pub refused : ℕ → ℕ → Buffers → Left
 refused r p b = withText b (fill 11 (refusal r p) (b .text))
 
--- Success prints the FASTA only; p records were read.
+-- Success prints the FASTA only; a refusal, after p records, its line only.
 unfoldable pub printed : ℕ → List ℕ → Filled → Filled
 printed p text f = elim (f .answer) [ gives n ↦ f | refuses r vs ↦ fill 11 (refusal r p) text ]
 
--- The list of a contracted table.
+-- The list of a table that was contracted after p records.
 unfoldable pub listed : ℕ → Buffers → Contracted → Left
 listed p b c =
     let after = withList b c in

@@ -1,10 +1,10 @@
 -- What the enums of this crate say, and what its parts do. Assumes nothing.
 use Prim.Native.Nat.{ℕ, _+_, _≤_}
 use mathlib.Core.Path.{_≡_}
-use mathlib.Core.List.{List, [], _∷_}
-use lib.ListN.{length, drop}
+use mathlib.Core.List.{List, []}
+use lib.ListN.{drop}
 use Rattle.dna.specs.Answer.{Answer, gives, refuses, Filled}
-use Rattle.label_file.specs.LabelFile.{LabelFile, damaged, holds, kIn, cutoffIn, fileOf, labelsOf}
+use Rattle.label_file.specs.LabelFile.{damaged, holds, kIn, cutoffIn, fileOf, labelsOf}
 use Rattle.label_file.specs.Output.{Buffers, Left, Taken, decimal}
 use Rattle.label_file.specs.declared.ListAnswer.{ListAnswer}
 use Rattle.label_file.specs.declared.ListAnswer.the-variants as list
@@ -34,6 +34,7 @@ pub record Lists (r : ListAnswer) (b : Buffers) (l : Left) : Type 0 where
 abbrev pub Sound : List ℕ → Type 0
 Sound file = fileOf file ≡ holds (kIn file) (cutoffIn file) (labelsOf (fileOf file))
 
+-- What the check of the form says of a file.
 abbrev pub formSays : Checked → List ℕ → Type 0
 formSays (checked.Damaged i) file = fileOf file ≡ damaged i
 formSays checked.Sound file = Sound file

@@ -1,6 +1,5 @@
 // The form of a label file: a `KC` record, then `LB` records.
 ghost use mathlib.Core.Path.{_≡_};
-ghost use mathlib.Core.Bool.{true};
 ghost use Prim.Native.Nat.{_+_, _<_, _≤_};
 ghost use lib.ListN.{length, drop};
 ghost use Rattle.label_file.specs.LabelFile.{two, headed, labelled};

@@ -1,6 +1,6 @@
 // The line that a refusal prints.
 ghost use mathlib.Core.Path.{_≡_};
-ghost use Prim.Native.Nat.{_+_, _^_, _≤_, _<_};
+ghost use Prim.Native.Nat.{_≤_};
 ghost use lib.ListN.{length, drop};
 ghost use Rattle.dna.specs.Answer.{fill};
 ghost use Rattle.label_file.specs.Output.{refusal};
@@ -35,7 +35,7 @@ fn put_line(line: &[u8], text: &mut [u8]) -> ListAnswer
     }
 }
 
-// `R`, the refusal's number, the record's, and a newline, at the end of a line of 64 bytes; the place of the first.
+// `R`, the refusal's number and the record's, a space between, and a newline, at the end of a line of 64 bytes; the place of the `R`.
 fn make_line(number: usize, at: usize, line: &mut [u8]) -> usize
     requires { ⌜ length (now line) ≡ 64 ⌝ }
     ensures { λ r. ⌜ (drop r (now (line .exit)) ≡ refusal number at) × (r ≤ 64) ⌝ }

@@ -1,16 +1,12 @@
 // A label file's list.
 ghost use mathlib.Core.Path.{_≡_};
-ghost use mathlib.Core.Bool.{true};
-ghost use Prim.Native.Nat.{_≤_};
-ghost use lib.ListN.{length};
-ghost use Rattle.kmer.specs.Kmer.{okK};
 ghost use Rattle.state.specs.Counted.{fourBits};
 ghost use Rattle.graph.specs.Adding.{Edges};
 ghost use Rattle.graph.specs.Contraction.{contract, Totals};
 ghost use Rattle.graph.specs.Fasta.{fasta};
 ghost use Rattle.adding.specs.Says.{addAnswer};
 ghost use Rattle.contraction.specs.Says.{contractAnswer};
-ghost use Rattle.label_file.specs.LabelFile.{kIn, cutoffIn, fileOf, labelsOf};
+ghost use Rattle.label_file.specs.LabelFile.{fileOf, labelsOf};
 ghost use Rattle.label_file.specs.Output.{lent, printed, listed, takeFrom, listAll, output};
 ghost use Rattle.label_file.specs.Says.{Fills, Lists, Sound, outcomeOf, Takes};
 use super::Checked;
@@ -23,7 +19,7 @@ use adding::AddAnswer;
 use contraction::ContractAnswer;
 use fasta::FastaAnswer;
 
-// The vertices stored after a label.
+// The vertices stored after a label, or the number of its refusal.
 fn stored_by(answer: AddAnswer) -> Outcome
     ensures { λ r. ⌜ r ≡ outcomeOf (λ (e : Edges). e .stored) (addAnswer answer) ⌝ }
 {
@@ -37,7 +33,7 @@ fn stored_by(answer: AddAnswer) -> Outcome
     }
 }
 
-// The labels listed by a contraction.
+// The labels listed by a contraction, or the number of its refusal.
 fn listed_by(answer: ContractAnswer) -> Outcome
     ensures { λ r. ⌜ r ≡ outcomeOf (λ (t : Totals). t .labels) (contractAnswer answer) ⌝ }
 {
@@ -77,7 +73,7 @@ fn take_labels(file: &[u8], k: usize, keys: &mut [u64], counts: &mut [u32]) -> T
     }
 }
 
-// The list as FASTA.
+// The list as FASTA, or the line of its refusal after so many records.
 fn print_list(
     labels: &[u8],
     starts: &[u32],

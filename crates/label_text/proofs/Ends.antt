@@ -1,4 +1,5 @@
--- The first and the last byte of a line. Assumes nothing.
+-- A line as a part of the text: its length and its bytes, whether it is a header, and what it is without a carriage return.
+-- Assumes nothing.
 use mathlib.Core.Path.{_≡_, sym, _∙_}
 use mathlib.Core.Bool.{false}
 use mathlib.Core.List.{List, []}
@@ -14,7 +15,7 @@ use Rattle.label_text.specs.Lines.{trimmed, isHeader}
 pub length-part : (text : List ℕ) (at n : ℕ) → at + n ≤ length text → length (part text at n) ≡ n
 length-part text at n h = simp (length-take, length-drop) (omega arith)
 
-pub getD-part : (text : List ℕ) (at n i : ℕ) → i < n → getD (part text at n) i 0 ≡ getD text (at + i) 0
+getD-part : (text : List ℕ) (at n i : ℕ) → i < n → getD (part text at n) i 0 ≡ getD text (at + i) 0
 getD-part text at n i h = rw (getD-take, getD-drop)
 
 module _ (text : List ℕ) (at end : ℕ) where

@@ -3,15 +3,20 @@ use mathlib.Core.Path.{_≡_, refl, sym, ap, _∙_}
 use mathlib.Core.List.{List, [], _∷_, _++_, append-nil}
 use Prim.Native.Nat.{ℕ, zero, suc, _+_, _-_, _/_, _%_, _≤_, _<_}
 use native.Mathlib.Omega.{arith}
+use borrow.Rule.Slice.PartMut.{midOf, putMid}
 use lib.ListN.{length, take, set, length-set}
-use lib.Seq.{paste, length-paste}
 use Rattle.dna.specs.Text.{part}
+use Rattle.dna.specs.Answer.{fill}
+use Rattle.dna.specs.Calls.{Writes}
+use Rattle.dna.specs.declared.Written.{Written}
+use Rattle.dna.proofs.Calls.{writes-over}
+use Rattle.dna.proofs.Overwriting.{over-all}
 use Rattle.label_text.specs.Lines.{filled}
 use Rattle.label_text.specs.Packing.{labelRecords}
 use Rattle.label_text.specs.Says.{Room, Closes, Grows, Joins}
 use Rattle.label_text.specs.declared.Step.the-variants as step
 use Rattle.label_text.proofs.Ends.{length-part}
-use Rattle.label_text.proofs.Cells.{four, pasted-front, pasted-label}
+use Rattle.label_text.proofs.Cells.{four, put-length, put-front, put-label}
 use Rattle.label_text.proofs.Remaining.{one-record}
 
 -- The label's end, also that of an empty label.
@@ -43,30 +48,38 @@ module _ {out : List ℕ} {at size : ℕ} (room : Room out at size) where
       }
 
   module _ (text : List ℕ) (from to : ℕ) where
+    -- An empty line leaves the label.
     pub grows-none : from ≡ to → Grows (part text from (to - from)) out at size at size out
     grows-none e =
         let z : to - from ≡ 0 = omega arith in
         record { place = refl; room = room; closed = refl; letters = rw (z, append-nil) }
 
     module _ (h : to ≤ length text) (l : from ≤ to) (n : from ≡ to → ⊥) where
+      -- A line that reaches past the file's largest size.
       pub joins-large : 16384 < at + 4 + size + (to - from) → Joins (part text from (to - from)) out at size step.TooLarge out
       joins-large g =
           let s : length (part text from (to - from)) ≡ to - from = length-part text from (to - from) (omega arith) in
           (omega arith, omega arith)
 
-      pub grows-more : at + 4 + size + (to - from) ≤ 16384 → (out′ : List ℕ)
-          → out′ ≡ paste out (at + 4 + size) (part text from (to - from)) (to - from)
-          → Grows (part text from (to - from)) out at size at (size + (to - from)) out′
-      grows-more g out′ e =
-          let s : length (part text from (to - from)) ≡ to - from = length-part text from (to - from) (omega arith) in
-          let w : at + 4 + size + (to - from) ≤ length out = omega (arith, room .long) in
-          record {
+      -- `cells` are the `lent` cells behind the label, as they came back from the copy of the line.
+      pub grows-more : at + 4 + size + (to - from) ≤ 16384 → {r : Written} (lent : ℕ) (cells : List ℕ) → lent ≡ to - from
+          → Writes r cells (fill 9 (part text from (to - from)) (midOf (at + 4 + size) lent out))
+          → Grows (part text from (to - from)) out at size at (size + (to - from)) (putMid (at + 4 + size) lent out cells)
+      grows-more g lent cells e w =
+          let line = part text from (to - from) in
+          let s : length line ≡ to - from = length-part text from (to - from) (omega arith) in
+          let fits : at + 4 + size + (to - from) ≤ length out = omega (arith, room .long) in
+          let m : length (midOf (at + 4 + size) lent out) ≡ length line =
+          rw (e, length-part out (at + 4 + size) (to - from) fits) (sym s) in
+          let copied : cells ≡ line =
+          writes-over line (midOf (at + 4 + size) lent out) w (omega arith) ∙ over-all line (midOf (at + 4 + size) lent out) (sym m) in
+          rw (copied, e) (record {
             place = refl;
             room = record {
-              long = ap length e ∙ length-paste out (at + 4 + size) (part text from (to - from)) (to - from) w (omega arith) ∙ room .long;
+              long = put-length out line at size (to - from) s fits ∙ room .long;
               inside = room .inside;
               letters = λ _. omega arith;
             };
-            closed = rw e (pasted-front out (part text from (to - from)) at size (to - from) s w);
-            letters = rw e (pasted-label out (part text from (to - from)) at size (to - from) s w);
-          }
+            closed = put-front out line at size (to - from) s fits;
+            letters = put-label out line at size (to - from) s fits;
+          })

@@ -25,6 +25,7 @@ first-record [] ls = refl
 first-record (b ∷ l) ls = ap (λ (r : List ℕ). r ++ labelRecords (filled ls)) (sym (one-record (b ∷ l) (omega arith)))
 
 module _ (l : List ℕ) where
+  -- No line is left.
   pub left-end : (fasta : Bool) → left fasta l [] ≡ filled (l ∷ [])
   unfolding left sequences
   left-end true = refl
@@ -48,12 +49,13 @@ module _ (l : List ℕ) where
   unfolding left filled
   left-plain ls = first-record l ls
 
--- What stands behind a label adds to its record.
+-- The records are no shorter than that of the first label, where it has letters.
 first-large : (l : List ℕ) (ls : List (List ℕ)) → 0 < length l → 4 + length l ≤ length (labelRecords (filled (l ∷ ls)))
 unfolding labelRecords filled
 first-large [] ls h = absurd (not-suc-le-zero h)
 first-large (b ∷ l) ls h = omega (arith, length-append l (labelRecords (filled ls)))
 
+-- Lines that are joined to it, and records behind it, only add to them.
 joined-large : (l : List ℕ) (ls : List (List ℕ)) → 0 < length l → 4 + length l ≤ length (labelRecords (filled (sequences l ls)))
 unfolding sequences
 joined-large l [] h = first-large l [] h
@@ -62,7 +64,6 @@ joined-large l (x ∷ ls) h =
     (λ _. first-large l (sequences [] ls) h)
     (λ _. omega (arith, length-append l x, joined-large (l ++ x) ls (omega (arith, length-append l x))))
 
--- So do lines that are left.
 pub left-large : (fasta : Bool) (l : List ℕ) (ls : List (List ℕ)) → 0 < length l → 4 + length l ≤ length (labelRecords (left fasta l ls))
 unfolding left
 left-large true l ls h = joined-large l ls h

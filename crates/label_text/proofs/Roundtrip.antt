@@ -11,6 +11,7 @@ use lib.Seq.{take-append-seam, drop-append-seam}
 use Rattle.lemmas.proofs.Tests.{choose}
 use Rattle.dna.specs.Answer.{refuses, Filled}
 use Rattle.label_file.specs.LabelFile.{holds, labelsFrom, fileOf, two}
+use Rattle.label_file.proofs.Outcomes.{ungiven}
 use Rattle.label_text.specs.Lines.{labelsIn}
 use Rattle.label_text.specs.Packing.{labelRecord, labelRecords, headRecord, packed, packText, Packs}
 use Rattle.label_text.specs.declared.PackAnswer.the-variants as pack
@@ -49,6 +50,7 @@ module _ (K cutoff : ℕ) where
         ih,
       )
 
+  -- A label file says the labels of which it was made.
   pub read-back : (labels : List (List ℕ)) → cutoff < 2 ^ 32 → length (packed K cutoff labels) ≤ 16384
       → fileOf (packed K cutoff labels) ≡ holds K cutoff labels
   unfolding fileOf packed
@@ -74,4 +76,4 @@ packed-read-back K cutoff text slice out n c =
     says = fileOf (take n out) ≡ holds K cutoff (labelsIn text)
 
     no-refusal : (r : ℕ) (slice : List ℕ) → Packs (pack.Packed n) out (record { answer = refuses r []; slice = slice }) → says
-    no-refusal r slice p = let z : _≡_ {A = ℕ} 0 1 = cc (p .answer) in absurd (omega arith)
+    no-refusal r slice p = ungiven n r [] (p .answer)

@@ -2,15 +2,16 @@
 -- each answer has to show. Assumes nothing.
 use mathlib.Core.Path.{_≡_, refl, sym, ap, _∙_}
 use mathlib.Core.List.{List, []}
-use Prim.Native.Nat.{ℕ, _+_, _-_, _≤_, _<_}
+use Prim.Native.Nat.{ℕ, _≤_}
 use native.Mathlib.Omega.{arith}
 use borrow.Author.Tests.{lt-ltb, le-ltb}
 use lib.Dec.{ltb}
-use lib.ListN.{length}
-use lib.Seq.{paste, take-take}
+use lib.ListN.{length, take}
 use Rattle.lemmas.proofs.Tests.{choose}
-use Rattle.dna.specs.Text.{part}
-use Rattle.dna.specs.Answer.{Filled}
+use Rattle.dna.specs.Answer.{Filled, fill}
+use Rattle.dna.specs.Calls.{Writes}
+use Rattle.dna.specs.declared.Written.{Written}
+use Rattle.dna.specs.declared.Written.the-variants as written
 use Rattle.dna.proofs.Inside.{Inside, refused-inside, fill-inside}
 use Rattle.label_text.specs.Lines.{labelsIn}
 use Rattle.label_text.specs.Packing.{packed, packText, packAnswer, Packs}
@@ -45,7 +46,18 @@ module _ (K cutoff : ℕ) (text slice : List ℕ) where
   pub packs-within : {r : PackAnswer} {out : List ℕ} → Packs r out (packText K cutoff text slice) → (n : ℕ) → r ≡ pack.Packed n → n ≤ length out
   packs-within p n e = rw (p .slice) (pack-inside n (sym (p .answer) ∙ ap packAnswer e))
 
+-- The answer of packing that has the same number as a copy's.
+abbrev pub packedBy : Written → PackAnswer
+packedBy (written.Done n) = pack.Packed n
+packedBy written.NoRoom = pack.NoRoom
+
+-- A copy into the slice that packs fills.
+packs-by : (w : Written) {out : List ℕ} {f : Filled} → Writes w out f → Packs (packedBy w) out f
+packs-by (written.Done n) c = record { answer = c .answer; slice = c .slice }
+packs-by written.NoRoom c = record { answer = c .answer; slice = c .slice }
+
 module _ (K cutoff : ℕ) (text slice : List ℕ) (r : Size) (file : List ℕ) (m : Measures K cutoff text r file) where
+  -- The file would be too large.
   pub packs-large : r ≡ files.TooLarge → Packs pack.TooLarge slice (packText K cutoff text slice)
   unfolding packText
   packs-large is =
@@ -59,22 +71,10 @@ module _ (K cutoff : ℕ) (text slice : List ℕ) (r : Size) (file : List ℕ) (
     pub file-fits : n ≤ 16384
     file-fits = measured .1
 
-    small : length (packed K cutoff (labelsIn text)) ≤ 16384
-    small = omega (arith, measured .0, file-fits)
-
-    pub packs-none : length slice < n → Packs pack.NoRoom slice (packText K cutoff text slice)
+    -- It is copied into the slice, or does not fit it.
+    pub packs-copied : (w : Written) (out : List ℕ) → Writes w out (fill 9 (take n file) slice)
+        → Packs (packedBy w) out (packText K cutoff text slice)
     unfolding packText
-    packs-none h =
-        let w : length slice < length (packed K cutoff (labelsIn text)) = omega (arith, measured .0) in
-        rw (le-ltb 16384 (length (packed K cutoff (labelsIn text))) small, lt-ltb (length slice) (length (packed K cutoff (labelsIn text))) w)
-        (record { answer = refl; slice = refl })
-
-    pub packs-all : n ≤ length slice → (out : List ℕ) → out ≡ paste slice 0 (part file 0 (n - 0)) (n - 0)
-        → Packs (pack.Packed n) out (packText K cutoff text slice)
-    unfolding packText
-    packs-all h out e =
-        let w : length (packed K cutoff (labelsIn text)) ≤ length slice = omega (arith, measured .0) in
-        let z : n - 0 ≡ n = omega arith in
-        let o : 0 + n ≡ n = omega arith in
-        rw (le-ltb 16384 (length (packed K cutoff (labelsIn text))) small, le-ltb (length slice) (length (packed K cutoff (labelsIn text))) w)
-        (record { answer = rw (measured .0); slice = e ∙ rw (z, o, take-take n n file (omega arith), measured .2, measured .0) })
+    packs-copied w out c =
+        let small : length (packed K cutoff (labelsIn text)) ≤ 16384 = omega (arith, measured .0, file-fits) in
+        rw (le-ltb 16384 (length (packed K cutoff (labelsIn text))) small) (packs-by w (rw (measured .2) at c))

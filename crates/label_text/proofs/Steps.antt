@@ -4,7 +4,7 @@ use mathlib.Core.Bool.{Bool, true, false}
 use mathlib.Core.List.{List, [], _∷_, _++_, append-assoc}
 use Prim.Native.Nat.{ℕ, zero, suc, _+_, _<_}
 use native.Mathlib.Omega.{arith}
-use lib.ListN.{length, take, length-append, length-take, length-drop}
+use lib.ListN.{length, take, length-append}
 use lib.Seq.{length-take-le}
 use Rattle.lemmas.proofs.Tests.{never}
 use Rattle.dna.specs.Text.{part}
@@ -13,13 +13,13 @@ use Rattle.label_text.specs.Packing.{labelRecords}
 use Rattle.label_text.specs.Says.{Room, Closes, Grows, Joins, Goes, Takes, left, whole}
 use Rattle.label_text.specs.declared.Step.{Step}
 use Rattle.label_text.specs.declared.Step.the-variants as step
+use Rattle.label_text.proofs.Ends.{length-part}
 use Rattle.label_text.proofs.Remaining.{left-header, left-joined, left-plain, left-large}
 
 -- The open label has so many letters.
-pub label-size : (out : List ℕ) (at size : ℕ) → Room out at size → length (part out (at + 4) size) ≡ size
+label-size : (out : List ℕ) (at size : ℕ) → Room out at size → length (part out (at + 4) size) ≡ size
 label-size out at zero r = refl
-label-size out at (suc size) r =
-    simp (length-take, length-drop) (omega (arith, r .long, r .letters (λ e. omega arith)))
+label-size out at (suc size) r = length-part out (at + 4) (suc size) (omega (arith, r .long, r .letters (λ e. omega arith)))
 
 -- A label that has grown has room.
 pub room-joined : (line out : List ℕ) (at size : ℕ) (j : Step) (mid : List ℕ) → Joins line out at size j mid → (a n : ℕ) → j ≡ step.Open a n

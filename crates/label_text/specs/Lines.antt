@@ -5,7 +5,7 @@ use mathlib.Core.List.{List, [], _∷_, _++_}
 use lib.Dec.{eqb}
 use lib.ListN.{length, take, getD}
 
--- A line without the carriage return that some systems put before a newline.
+-- A line without a carriage return at its end, which some systems put before a newline.
 abbrev pub trimmed : List ℕ → List ℕ
 trimmed l = cond (eqb (getD l (length l - 1) 0) 13) (take (length l - 1) l) l
 
@@ -18,12 +18,12 @@ linesFrom l (b ∷ s) = cond (eqb b 10) (trimmed l ∷ linesFrom [] s) (linesFro
 abbrev pub isHeader : List ℕ → Bool
 isHeader l = eqb (getD l 0 0) 62
 
--- The records' sequences: the lines between two headers joined, after l.
+-- The sequences of a FASTA text's lines: those between two headers are joined. The first sequence has begun with l.
 unfoldable pub sequences : List ℕ → List (List ℕ) → List (List ℕ)
 sequences l [] = l ∷ []
 sequences l (x ∷ xs) = cond (isHeader x) (l ∷ sequences [] xs) (sequences (l ++ x) xs)
 
--- Empty ones are left out.
+-- Labels without the empty ones.
 unfoldable pub filled : List (List ℕ) → List (List ℕ)
 filled [] = []
 filled ([] ∷ ls) = filled ls

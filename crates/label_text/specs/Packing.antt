@@ -11,22 +11,24 @@ use Rattle.label_text.specs.Lines.{labelsIn}
 use Rattle.label_text.specs.declared.PackAnswer.{PackAnswer}
 use Rattle.label_text.specs.declared.PackAnswer.the-variants as pack
 
--- A number in two bytes, low byte first.
+-- The low sixteen bits of a number in two bytes, low byte first.
 abbrev pub twoBytes : ℕ → List ℕ
 twoBytes n = n % 256 ∷ n / 256 % 256 ∷ []
 
--- The `KC` record.
+-- The `KC` record: K in one byte, the cutoff in four, low byte first.
 abbrev pub headRecord : ℕ → ℕ → List ℕ
 headRecord K cutoff = bytes "KC" ++ (K ∷ []) ++ twoBytes cutoff ++ twoBytes (cutoff / 65536)
 
--- The `LB` record of a label.
+-- The `LB` record of a label: its length in two bytes, low byte first, then the label.
 abbrev pub labelRecord : List ℕ → List ℕ
 labelRecord l = bytes "LB" ++ twoBytes (length l) ++ l
 
+-- The records of labels, one behind the other.
 unfoldable pub labelRecords : List (List ℕ) → List ℕ
 labelRecords [] = []
 labelRecords (l ∷ ls) = labelRecord l ++ labelRecords ls
 
+-- The label file that says K, a cutoff and labels.
 unfoldable pub packed : ℕ → ℕ → List (List ℕ) → List ℕ
 packed K cutoff labels = headRecord K cutoff ++ labelRecords labels
 
@@ -36,6 +38,7 @@ packText K cutoff text slice =
     let file = packed K cutoff (labelsIn text) in
     cond (ltb 16384 (length file)) (record { answer = refuses 13 []; slice = slice }) (fill 9 file slice)
 
+-- The bytes of the file, or why none were written.
 abbrev pub packAnswer : PackAnswer → Answer ℕ
 packAnswer (pack.Packed n) = gives n
 packAnswer pack.TooLarge = refuses 13 []

@@ -20,7 +20,8 @@ pub record EndsLine (text : List ℕ) (at r : ℕ) : Type 0 where
   pub before : (i : ℕ) → i < r → at ≤ i → getD text i 0 ≡ 10 → ⊥
   pub there : (r ≡ length text) ⊎ (getD text r 0 ≡ 10)
 
--- The labels of an open label and the lines behind it.
+-- The labels that come of an open label and the lines behind it: in FASTA they are joined to it up to the next header; in a plain text
+-- each is a label of its own.
 unfoldable pub left : Bool → List ℕ → List (List ℕ) → List (List ℕ)
 left true l ls = filled (sequences l ls)
 left false l ls = filled (l ∷ ls)
@@ -47,6 +48,7 @@ pub record Grows (line out : List ℕ) (at size a n : ℕ) (out′ : List ℕ) :
   pub closed : take a out′ ≡ take at out
   pub letters : part out′ (a + 4) n ≡ part out (at + 4) size ++ line
 
+-- The open label has grown by a line, or the line has letters and reaches past 16,384 bytes.
 abbrev pub Joins : List ℕ → List ℕ → ℕ → ℕ → Step → List ℕ → Type 0
 Joins line out at size (step.Open a n) out′ = Grows line out at size a n out′
 Joins line out at size step.TooLarge out′ = (0 < length line) × (16384 < at + 4 + size + length line)
@@ -57,6 +59,7 @@ pub record Goes (fasta : Bool) (line out : List ℕ) (at size a n : ℕ) (out′
   pub plain : fasta ≡ false → n ≡ 0
   pub same : (ls : List (List ℕ)) → whole fasta out at size (line ∷ ls) ≡ whole fasta out′ a n ls
 
+-- A line is taken, or the file would be larger than 16,384 bytes, whatever lines follow.
 abbrev pub Takes : Bool → List ℕ → List ℕ → ℕ → ℕ → Step → List ℕ → Type 0
 Takes fasta line out at size (step.Open a n) out′ = Goes fasta line out at size a n out′
 Takes fasta line out at size step.TooLarge out′ = (ls : List (List ℕ)) → 16384 < length (whole fasta out at size (line ∷ ls))

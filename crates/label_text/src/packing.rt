@@ -1,8 +1,7 @@
 // A label file made from a text.
 ghost use mathlib.Core.Path.{_≡_};
 ghost use mathlib.Core.Bool.{false};
-ghost use Prim.Native.Nat.{_+_, _-_, _≤_};
-ghost use lib.Seq.{paste};
+ghost use Prim.Native.Nat.{_-_, _≤_};
 ghost use lib.ListN.{length};
 ghost use Rattle.dna.specs.Text.{over, part};
 ghost use Rattle.label_text.specs.Packing.{headRecord, packText, Packs};
@@ -11,6 +10,8 @@ use super::PackAnswer;
 use super::Size;
 use super::Step;
 use super::lines;
+use dna::Written;
+use dna::copy;
 
 // The `KC` record.
 fn put_head(k: u8, cutoff: u32, out: &mut [u8])
@@ -24,18 +25,6 @@ fn put_head(k: u8, cutoff: u32, out: &mut [u8])
     out[4] = (cutoff / 256 % 256) as u8;
     out[5] = (cutoff / 65536 % 256) as u8;
     out[6] = (cutoff / 65536 / 256 % 256) as u8;
-}
-
-// A part of the text behind a place.
-fn append(text: &[u8], from: usize, to: usize, out: &mut [u8], at: usize)
-    requires { ⌜ (from ≤ to) × (to ≤ length (now text)) × (at + (to - from) ≤ length (now out)) ⌝ }
-    ensures { λ _. ⌜ now (out .exit) ≡ paste (now (out .entry)) at (part (now (text .entry)) from (to - from)) (to - from) ⌝ }
-{
-    let mut i = 0;
-    while i < to - from {
-        out[at + i] = text[from + i];
-        i += 1;
-    }
 }
 
 // The mark and the length in front of a label whose letters stand four bytes behind a place; where the next record begins. An empty
@@ -54,7 +43,7 @@ fn close(out: &mut [u8], at: usize, size: usize) -> usize
     at + 4 + size
 }
 
-// A line's letters behind those of the open label.
+// A line's letters behind those of the open label, where they lie within 16,384 bytes.
 fn add_letters(text: &[u8], from: usize, to: usize, out: &mut [u8], at: usize, size: usize) -> Step
     requires { ⌜ (from ≤ to) × (to ≤ length (now text)) × Room (now out) at size ⌝ }
     ensures { λ r. ⌜ Joins (part (now (text .entry)) from (to - from)) (now (out .entry)) at size r (now (out .exit)) ⌝ }
@@ -62,10 +51,12 @@ fn add_letters(text: &[u8], from: usize, to: usize, out: &mut [u8], at: usize, s
     if from == to {
         return Step::Open(at, size);
     }
-    if 16384 < at + 4 + size + (to - from) {
+    let start = at + 4 + size;
+    let end = start + (to - from);
+    if 16384 < end {
         return Step::TooLarge;
     }
-    append(text, from, to, out, at + 4 + size);
+    copy(&text[from..to], &mut out[start..end]);
     Step::Open(at, size + (to - from))
 }
 
@@ -122,14 +113,11 @@ pub fn pack(text: &[u8], k: u8, cutoff: u32, out: &mut [u8]) -> PackAnswer
     ensures { λ r. ⌜ Packs r (now (out .exit)) (packText k cutoff (now (text .entry)) (now (out .entry))) ⌝ }
 {
     let mut file = [0u8; 16384];
-    match pack_lines(text, k, cutoff, &mut file) {
-        Size::TooLarge => PackAnswer::TooLarge,
-        Size::Is(n) => {
-            if out.len() < n {
-                return PackAnswer::NoRoom;
-            }
-            append(&file, 0, n, out, 0);
-            PackAnswer::Packed(n)
-        }
+    let Size::Is(n) = pack_lines(text, k, cutoff, &mut file) else {
+        return PackAnswer::TooLarge;
+    };
+    match copy(&file[..n], out) {
+        Written::Done(size) => PackAnswer::Packed(size),
+        Written::NoRoom => PackAnswer::NoRoom,
     }
 }

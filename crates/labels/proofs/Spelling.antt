@@ -15,18 +15,19 @@ use Rattle.labels.specs.declared.Number.{Number}
 use Rattle.labels.specs.declared.Number.the-variants.{Is, Bad}
 
 -- More digits make no smaller number.
-pub decimal-grows : (x : ℕ) (ds : List ℕ) → x ≤ decimal x ds
+decimal-grows : (x : ℕ) (ds : List ℕ) → x ≤ decimal x ds
 unfolding decimal
 decimal-grows x [] = omega arith
 decimal-grows x (d ∷ ds) = omega (arith, decimal-grows (10 * x + (d - 48)) ds)
 
+-- A number is not Bad, and is known by its value.
 no-number : {P : Type 0} {x : ℕ} → Is x ≡ Bad → P
 no-number e = let z : _≡_ {A = ℕ} 0 1 = cc in absurd (omega arith)
 
 is-number : {x y : ℕ} → Is x ≡ Is y → x ≡ y
 is-number e = cc
 
--- By the first byte, and by the number so far.
+-- What a text says after x, by its first byte, and by x itself.
 module _ (most : ℕ) where
   from-none : (x : ℕ) → x ≤ most → spelledFrom x [] most ≡ Is x
   unfolding areDigits decimal
@@ -49,13 +50,16 @@ module _ (most : ℕ) where
       let a : most < decimal x ds = omega (arith, decimal-grows x ds) in
       rw (lt-leb (decimal x ds) most a, and-false)
 
+  -- A number that is said is not above the limit.
   pub spelled-most : (ds : List ℕ) (x : ℕ) → Is x ≡ spelled ds most → x ≤ most
   unfolding spelled
   spelled-most ds x =
       let P : Number → Type 0 = λ n. Is x ≡ n → x ≤ most in
       let low = leb (decimal 0 ds) most in
       choose P (eqb (length ds) 0) (λ _ e. no-number e)
-      (λ _. choose P (areDigits ds && low) (λ h e. omega (arith, is-number e, leb-true (decimal 0 ds) most (both (areDigits ds) low h .1))) (λ _ e. no-number e))
+      (λ _. choose P (areDigits ds && low)
+      (λ h e. omega (arith, is-number e, leb-true (decimal 0 ds) most (both (areDigits ds) low h .1)))
+      (λ _ e. no-number e))
 
 module _ (digits : List ℕ) (most : ℕ) where
   pub spelled-empty : length digits ≡ 0 → Bad ≡ spelled digits most

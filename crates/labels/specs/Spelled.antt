@@ -13,15 +13,16 @@ unfoldable pub areDigits : List ℕ → Bool
 areDigits [] = true
 areDigits (d ∷ ds) = leb 48 d && leb d 57 && areDigits ds
 
--- The number of digits that stand behind those of x.
+-- The number that x becomes with more digits behind its own.
 unfoldable pub decimal : ℕ → List ℕ → ℕ
 decimal x [] = x
 decimal x (d ∷ ds) = decimal (10 * x + (d - 48)) ds
 
+-- The same where the bytes are digits and the number is not above a limit.
 abbrev pub spelledFrom : ℕ → List ℕ → ℕ → Number
 spelledFrom x ds most = cond (areDigits ds && leb (decimal x ds) most) (Is (decimal x ds)) Bad
 
--- The number of one digit or more, where it is not above a limit.
+-- The number that one digit or more say, where it is not above a limit.
 unfoldable pub spelled : List ℕ → ℕ → Number
 spelled ds most = cond (eqb (length ds) 0) Bad (spelledFrom 0 ds most)
 

@@ -1,7 +1,5 @@
 // `labels K CUTOFF`: FASTA or plain lines on standard input, as a label file on standard output.
 ghost use mathlib.Core.Path.{_≡_};
-ghost use Prim.Native.Nat.{_≤_};
-ghost use lib.ListN.{length};
 ghost use Rattle.labels.specs.Spelled.{spelled, Given};
 use label_text::PackAnswer;
 use libc::STDERR_FILENO;
@@ -57,18 +55,17 @@ fn too_large() {
     complain(b"labels: the label file would be over 16384 bytes\n");
 }
 
-fn print(file: &[u8], n: usize)
-    requires { ⌜ n ≤ length (now file) ⌝ }
-{
-    if !io::write_all(STDOUT_FILENO, &file[..n]) {
+fn print(file: &[u8]) {
+    if !io::write_all(STDOUT_FILENO, file) {
         complain(b"labels: standard output could not be written\n");
     }
 }
 
+// The label file of a text, printed. The buffer holds the largest file, so one without room in it is too large as well.
 fn pack(text: &[u8], k: u8, cutoff: u32) {
     let mut file = [0u8; 16384];
     match label_text::pack(text, k, cutoff, &mut file) {
-        PackAnswer::Packed(n) => print(&file, n),
+        PackAnswer::Packed(n) => print(&file[..n]),
         PackAnswer::TooLarge => too_large(),
         PackAnswer::NoRoom => too_large(),
     }

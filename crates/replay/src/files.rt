@@ -3,6 +3,7 @@ use super::found;
 use super::read;
 use label_file::ListAnswer;
 
+// The bytes to be printed, or a number above every length.
 fn size(answer: ListAnswer) -> usize {
     match answer {
         ListAnswer::Printed(n) => n,

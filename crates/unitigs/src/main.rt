@@ -12,10 +12,8 @@ fn complain(what: &[u8]) {
     io::write_all(STDERR_FILENO, what);
 }
 
-fn print(text: &[u8], n: usize)
-    requires { ⌜ n ≤ length (now text) ⌝ }
-{
-    if !io::write_all(STDOUT_FILENO, &text[..n]) {
+fn print(text: &[u8]) {
+    if !io::write_all(STDOUT_FILENO, text) {
         complain(b"unitigs: standard output could not be written\n");
     }
 }
@@ -55,5 +53,5 @@ fn main() {
     };
     let mut text = [0u8; 8192];
     let size = list(&file[..n], &mut text);
-    print(&text, size);
+    print(&text[..size]);
 }

@@ -1,10 +1,11 @@
 -- Each entry passed lies within the labels. Assumes nothing.
-use mathlib.Core.Path.{sym}
+use mathlib.Core.Path.{_≡_, refl, sym}
+use mathlib.Core.Bool.{Bool, true, false}
 use Prim.Native.Nat.{ℕ, _+_, _-_, _≤_, _<_}
 use native.Mathlib.Omega.{arith}
 use borrow.Author.Count.{below-more}
 use lib.ListN.{length, getD}
-use Rattle.fasta.proofs.Entries.{within-long, within-at, within-all, refuted}
+use Rattle.fasta.proofs.Entries.{within-long, within-at, within-all}
 use borrow.Author.Needs.{needs}
 use Rattle.fasta.proofs.lie_within.Statement.{statement}
 use Rattle.fasta.proofs.lie_within.Tie as tie
@@ -16,6 +17,11 @@ Inv-loop labels starts lengths count i₀ i =
 
 abbrev μ-loop : tie.MeasureT-loop
 μ-loop labels starts lengths count i₀ i = count - i
+
+-- A test that cannot hold.
+refuted : (t : Bool) → (t ≡ true → ⊥) → false ≡ t
+refuted true h = absurd (h refl)
+refuted false h = refl
 
 returns : tie.Need-returns Inv-loop μ-loop
 returns c = refuted _ (λ t. omega (arith, within-long _ _ _ _ t .0))

@@ -1,13 +1,20 @@
 -- A file's size lies within its slice. Assumes nothing.
+use native.Mathlib.Omega.{arith}
+use lib.ListN.{length-take}
 use Rattle.label_text.proofs.Says.{packs-within}
 use borrow.Author.Needs.{needs}
 use Rattle.labels.proofs.pack.Statement.{statement}
 use Rattle.labels.proofs.pack.Tie as tie
 
-print-requires : tie.Need-print-requires
-print-requires c κs =
-    let p = c .before .before .before .before .before in
-    packs-within _ _ _ _ (p .pack .ensures) _ (c .before .before .n .given .1)
+array-share-prefix-file : tie.Need-array-share-prefix-file
+array-share-prefix-file c =
+    let told = c .before in
+    packs-within _ _ _ _ (told .before .before .before .pack .ensures) _ (told .n .given .1)
+
+slice-aggregate-print : tie.Need-slice-aggregate-print
+slice-aggregate-print c =
+    let told = c .before .before in
+    simp length-take (omega (arith, packs-within _ _ _ _ (told .before .before .before .pack .ensures) _ (told .n .given .1)))
 
 pub pack-spec : {M : Type 1} → statement M
 pack-spec =
@@ -16,8 +23,9 @@ pack-spec =
     (λ c. search needs)
     (λ c κs. search needs)
     (λ c. search needs)
-    (λ c. search needs)
-    print-requires
+    array-share-prefix-file
+    slice-aggregate-print
+    (λ c κs. search needs)
     (λ c. search needs)
     (λ c κs. search needs)
     (λ c. search needs)

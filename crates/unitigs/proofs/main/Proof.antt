@@ -1,4 +1,4 @@
--- What was read lies within the buffer. Assumes nothing.
+-- What was read lies within the file's buffer, and what is printed within the text's. Assumes nothing.
 use native.Mathlib.Omega.{arith}
 use lib.ListN.{length-take}
 use borrow.Author.Needs.{needs}
@@ -29,5 +29,6 @@ main-spec =
     (λ c. search needs)
     (λ c κs. search needs)
     (λ c. search needs)
+    (λ c. simp length-take (omega arith))
     (λ c κs. search needs)
     (λ c. search needs))

@@ -4,7 +4,7 @@ use Prim.Native.Nat.{_-_}
 use native.Mathlib.Omega.{arith}
 use borrow.Author.Tests.{not-true, not-false}
 use lib.ListN.{length}
-use Rattle.label_file.proofs.Marks.{labelled-room}
+use Rattle.label_file.proofs.Reaching.{next-room}
 use Rattle.label_file.proofs.Remaining.{Remains, too-long, headless, remains-all, remains-none, remains-bad, remains-next}
 use borrow.Author.Needs.{needs}
 use Rattle.label_file.proofs.form.form.Statement.{statement}
@@ -30,7 +30,7 @@ loop-holds c =
     (sym (c .before .is-headed .ensures) ∙ not-false _ (c .if2 .left))
 
 is-labelled-requires : tie.Need-is-labelled-requires Inv-loop μ-loop
-is-labelled-requires c κs = let r = c .before .loop .inv in (r .within, r .short)
+is-labelled-requires c κs = let p = c .before .loop .inv .place in (p .within, p .short)
 
 returns-3 : tie.Need-returns-3 Inv-loop μ-loop
 returns-3 c =
@@ -39,10 +39,8 @@ returns-3 c =
 
 two-bytes-requires : tie.Need-two-bytes-requires Inv-loop μ-loop
 two-bytes-requires c κs =
-    let a = c .before .before .before .before .before .before .before .before .args in
-    let l = c .before .before .before .loop in
-    let t = sym (c .before .is-labelled .ensures) ∙ not-false _ (c .if3 .left) in
-    omega (arith, labelled-room (a .file .now) (l .at) (l .inv .within) t)
+    let t = c .before .before in
+    omega (arith, next-room (t .before .loop .inv .place) (t .loop-test .taken) (sym (c .before .is-labelled .ensures) ∙ not-false _ (c .if3 .left)))
 
 loop-again : tie.Need-loop-again Inv-loop μ-loop
 loop-again c =
