@@ -4,7 +4,7 @@
  * Each slice is a pointer and its length in elements. A pointer must be aligned, not null (for a length of 0 too) and good for
  * its length, and a slice that is not const must overlap no other slice of the call.
  *
- * Each call returns 0, or the number of the one refusal that applies. It writes its figures into the first cells of the slice
+ * Each call returns 0, or the number of the first refusal that applies. It writes its figures into the first cells of the slice
  * figures, as many as have room (two are always enough), and leaves the rest as it was: where it returns 0 the figures named
  * at the call, else what is returned beside the refusal, which is nothing where none is named. A refusal changes no other lent
  * memory, except that 8 and 9 set the first n marks to 0.

@@ -1,4 +1,4 @@
-// What uncolored.rs names of the rest of the original and the debug contractor does not run, so that it compiles.
+// What uncolored.rs names of the rest of the original, so that it compiles: Side, and what the debug contractor does not run.
 
 // As lib.rs has it.
 #[derive(Debug, Clone, Copy, PartialEq, Eq, Hash)]
