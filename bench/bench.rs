@@ -100,7 +100,8 @@ fn rust<const K: usize>(c: &Case) -> Timed {
     (added.as_nanos() as f64, contracted.as_nanos() as f64, fasta)
 }
 
-fn ours(c: &Case) -> Timed {
+// The table is contracted several times, since a case of many short labels is added once.
+fn ours(c: &Case, contractions: usize) -> Timed {
     let (mut keys, mut counts, mut figures) = (vec![0u64; 2 * c.n], vec![0u32; c.n], [0u64; 2]);
     let (mut labels, mut out) = (vec![0u8; c.n * c.k], vec![0u8; c.n * (c.k + 4)]);
     let (mut starts, mut lengths, mut marks) = (vec![0u32; c.n], vec![0u32; c.n], vec![0u8; c.n]);
@@ -114,15 +115,18 @@ fn ours(c: &Case) -> Timed {
         n = figures[1] as usize;
     }
     let added = begin.elapsed();
-    let begin = Instant::now();
-    let r = unsafe {
-        lash_contract(
-            c.k, c.cutoff, n, keys.as_ptr(), keys.len(), counts.as_ptr(), counts.len(), labels.as_mut_ptr(), labels.len(), starts.as_mut_ptr(),
-            starts.len(), lengths.as_mut_ptr(), lengths.len(), marks.as_mut_ptr(), marks.len(), figures.as_mut_ptr(), 2,
-        )
-    };
-    let contracted = begin.elapsed();
-    assert_eq!(r, 0);
+    let mut contracted = f64::MAX;
+    for _ in 0..contractions {
+        let begin = Instant::now();
+        let r = unsafe {
+            lash_contract(
+                c.k, c.cutoff, n, keys.as_ptr(), keys.len(), counts.as_ptr(), counts.len(), labels.as_mut_ptr(), labels.len(), starts.as_mut_ptr(),
+                starts.len(), lengths.as_mut_ptr(), lengths.len(), marks.as_mut_ptr(), marks.len(), figures.as_mut_ptr(), 2,
+            )
+        };
+        contracted = contracted.min(begin.elapsed().as_nanos() as f64);
+        assert_eq!(r, 0);
+    }
     let count = figures[0] as usize;
     let r = unsafe {
         lash_write_fasta(
@@ -132,7 +136,7 @@ fn ours(c: &Case) -> Timed {
     };
     assert_eq!(r, 0);
     out.truncate(figures[0] as usize);
-    (added.as_nanos() as f64, contracted.as_nanos() as f64, out)
+    (added.as_nanos() as f64, contracted, out)
 }
 
 fn least(runs: usize, mut run: impl FnMut() -> Timed) -> Timed {
@@ -154,7 +158,8 @@ pub fn main() {
                 let runs = if n < 10000 { 9 } else { 5 };
                 let theirs = least(runs, || with_k!(k, rust(c)));
                 let short = c.labels[0].len() == k + 1;
-                let mine = least(if short && n > 10000 { 1 } else { runs }, || ours(c));
+                let once = short && n > 10000;
+                let mine = least(if once { 1 } else { runs }, || ours(c, if once { runs } else { 1 }));
                 assert!(mine.2 == theirs.2, "the lists differ: K {k}, {n}, {}", c.name);
                 let windows: usize = c.labels.iter().map(|l| l.len() + 1 - k).sum();
                 println!(
