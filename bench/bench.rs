@@ -1,9 +1,11 @@
 // Times this library and the Rust original side by side, in one process, on the same labels, and prints the ratio of their times: below 1 this library
-// is faster. Buffers are made before the clock starts. Each time is the least of several runs; the lists are compared byte by byte.
+// is faster. Buffers are made before the clock starts. The two sides' runs take turns; each time is the least of them. The lists are compared byte by byte.
 use crate::cases::{turned, Dice};
 use crate::library::*;
 use crate::uncolored::Graph;
 use std::time::Instant;
+
+const RUNS: usize = 9;
 
 struct Case {
     name: &'static str,
@@ -100,6 +102,12 @@ fn rust<const K: usize>(c: &Case) -> Timed {
     (added.as_nanos() as f64, contracted.as_nanos() as f64, fasta)
 }
 
+// Where this library adds a case once, the original has as many runs as it has contractions, and each part's least counts.
+fn rusts(c: &Case, runs: usize) -> Timed {
+    let k = c.k;
+    (1..runs).fold(with_k!(k, rust(c)), |best, _| lesser(best, with_k!(k, rust(c))))
+}
+
 // The table is contracted several times, since a case of many short labels is added once.
 fn ours(c: &Case, contractions: usize) -> Timed {
     let (mut keys, mut counts, mut figures) = (vec![0u64; 2 * c.n], vec![0u32; c.n], [0u64; 2]);
@@ -139,11 +147,15 @@ fn ours(c: &Case, contractions: usize) -> Timed {
     (added.as_nanos() as f64, contracted, out)
 }
 
-fn least(runs: usize, mut run: impl FnMut() -> Timed) -> Timed {
-    let mut best = run();
-    for _ in 1..runs {
-        let again = run();
-        best = (best.0.min(again.0), best.1.min(again.1), again.2);
+fn lesser(a: Timed, b: Timed) -> Timed {
+    (a.0.min(b.0), a.1.min(b.1), b.2)
+}
+
+// The least times of both sides. Their runs take turns, so that a host that slows down slows both.
+fn in_turns(turns: usize, mut theirs: impl FnMut() -> Timed, mut mine: impl FnMut() -> Timed) -> (Timed, Timed) {
+    let mut best = (theirs(), mine());
+    for _ in 1..turns {
+        best = (lesser(best.0, theirs()), lesser(best.1, mine()));
     }
     best
 }
@@ -155,11 +167,9 @@ pub fn main() {
     for n in [1024, 16384, 65536] {
         for k in [15, 31, 33, 63] {
             for c in cases(k, n).iter().filter(|_| n <= most) {
-                let runs = if n < 10000 { 9 } else { 5 };
-                let theirs = least(runs, || with_k!(k, rust(c)));
                 let short = c.labels[0].len() == k + 1;
-                let once = short && n > 10000;
-                let mine = least(if once { 1 } else { runs }, || ours(c, if once { runs } else { 1 }));
+                let (turns, contractions) = if short && n > 10000 { (1, RUNS) } else { (RUNS, 1) };
+                let (theirs, mine) = in_turns(turns, || rusts(c, contractions), || ours(c, contractions));
                 assert!(mine.2 == theirs.2, "the lists differ: K {k}, {n}, {}", c.name);
                 let windows: usize = c.labels.iter().map(|l| l.len() + 1 - k).sum();
                 println!(
