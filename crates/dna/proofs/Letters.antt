@@ -1,15 +1,16 @@
 -- Laws of the letters. Assumes nothing.
-use mathlib.Core.Path.{_≡_, refl, _∙_}
-use mathlib.Core.Bool.{true, false, cond, _&&_}
+use mathlib.Core.Path.{_≡_, refl}
+use mathlib.Core.Bool.{true, false, cond, _&&_, false≢true}
 use Prim.Native.Nat.{ℕ, zero, suc, _-_, _/_, _^_, _≤_, _<_}
 use native.Mathlib.Omega.{arith}
-use borrow.Author.Tests.{lt-ltb, ltb-true, ltb-false, eqb-true}
+use borrow.Author.Tests.{lt-ltb, ltb-true, ltb-false}
 use lib.Bits.{bitAnd, bitXor}
 use lib.Dec.{eqb, ltb}
 use Rattle.lemmas.proofs.Tests.{choose}
 use Rattle.lemmas.proofs.Tables.{everywhere}
 use Rattle.dna.specs.Text.{bytes, among, openText}
 use Rattle.dna.specs.Letters.{codeOf, letterOf, complement, isBase, validBits, openLetters}
+use Rattle.dna.proofs.Text.{at-each}
 
 -- Every byte is a base or N.
 pub code-le : (b : ℕ) → codeOf b ≤ 4
@@ -56,8 +57,20 @@ pub valid-bits : (b : ℕ) → b < 256 → eqb (validBits b) (codeOf b) ≡ isBa
 unfolding openText openLetters
 valid-bits b h = everywhere (λ x. eqb (validBits x) (codeOf x)) (λ x. isBase x) 256 refl b h
 
-pub valid-code : (b : ℕ) → b < 256 → isBase b ≡ true → validBits b ≡ codeOf b
-valid-code b h e = eqb-true (validBits b) (codeOf b) (valid-bits b h ∙ e)
+-- So of a base, whose ten letters are tried here without a bound.
+pub valid-code : (b : ℕ) → isBase b ≡ true → validBits b ≡ codeOf b
+unfolding openText openLetters
+valid-code b =
+    choose (λ c. ltb c 4 ≡ true → validBits b ≡ c) (among b (bytes "Aa")) (λ e h. at-each validBits (λ x. 0) (bytes "Aa") refl b e)
+    (λ _. choose (λ c. ltb c 4 ≡ true → validBits b ≡ c) (among b (bytes "Cc")) (λ e h. at-each validBits (λ x. 1) (bytes "Cc") refl b e)
+    (λ _. choose (λ c. ltb c 4 ≡ true → validBits b ≡ c) (among b (bytes "Gg")) (λ e h. at-each validBits (λ x. 2) (bytes "Gg") refl b e)
+    (λ _. choose (λ c. ltb c 4 ≡ true → validBits b ≡ c) (among b (bytes "TtUu"))
+    (λ e h. at-each validBits (λ x. 3) (bytes "TtUu") refl b e) (λ _ h. absurd (false≢true h)))))
+
+-- On every byte they are some base's.
+pub valid-small : (b : ℕ) → validBits b < 4
+unfolding validBits
+valid-small b = omega arith
 
 -- The bases are the ten letters ACGTUacgtu.
 pub base-letters : (b : ℕ) → b < 256 → isBase b ≡ among b (bytes "ACGTUacgtu")

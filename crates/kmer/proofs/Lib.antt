@@ -9,10 +9,12 @@ pub mod Bounds
 pub mod Verdicts
 pub mod Orders
 pub mod Places
-pub mod Packing
 pub mod Spelling
 pub mod Writing
 pub mod Strands
 pub mod Windows
+pub mod Testing
+pub mod Packing
+pub mod Calls
 pub mod Texts
 pub mod Given

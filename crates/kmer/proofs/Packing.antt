@@ -1,107 +1,78 @@
--- The loop that packs letters, and the cases of its answer. Assumes nothing.
-use mathlib.Core.Path.{_≡_, refl, sym, ap, _∙_, subst₂}
-use mathlib.Core.Bool.{Bool, true, false, cond}
-use mathlib.Core.List.{List, [], _∷_}
-use Prim.Native.Nat.{ℕ, suc, _+_, _-_, _*_, _/_, _%_, _^_, _<_, _≤_}
-use native.Mathlib.Nat.{pow-suc, lt-of-lt-of-le, mod-lt, mod-eq-of-lt, pow-le-pow-right, zero-lt-suc, div-lt-iff-lt-mul}
+-- Letters read by their bits alone: their number, word by word, and that of bases it is the packed number. Assumes nothing.
+use mathlib.Core.Path.{_≡_, refl, sym, ap, _∙_}
+use mathlib.Core.List.{List, [], _∷_, _++_, map, map-append}
+use Prim.Native.Nat.{ℕ, _+_, _-_, _*_, _%_, _^_, _<_, _≤_}
+use native.Mathlib.Nat.{lt-of-lt-of-le, le-of-lt, mod-eq-of-lt, pow-le-pow-right, zero-lt-suc}
 use native.Mathlib.Numerals.{add-one}
 use native.Mathlib.Omega.{arith}
-use borrow.Author.Tests.{ltb-true}
-use lib.ListN.{length, getD, take, drop, drop-of-length-le}
-use lib.Seq.{drop-cons, getD-take, length-take-le}
-use lib.Pow.{pow-pos, shr-lt}
-use Rattle.dna.specs.Answer.{gives, refuses}
-use Rattle.dna.specs.Calls.{bitsWhere}
-use Rattle.dna.specs.Letters.{codeOf, isBase, firstBad}
-use Rattle.dna.specs.declared.AsciiBits.the-variants.{Bits, NoBase}
-use Rattle.kmer.specs.Kmer.{joined, onto, packed}
-use Rattle.kmer.specs.Calls.{packBases}
-use Rattle.kmer.proofs.Wide.{high-of}
-use Rattle.kmer.proofs.Moves.{up}
+use borrow.Author.Tests.{lt-ltb}
+use lib.ListN.{length, getD, take, drop, length-map, length-drop}
+use lib.Seq.{take-suc, take-add, length-take-le}
+use Rattle.dna.specs.Letters.{codeOf, validBits}
+use Rattle.dna.proofs.Letters.{code-letter, valid-code, valid-small}
+use Rattle.kmer.specs.Kmer.{onto, packed, baseIn, validPacked}
+use Rattle.kmer.specs.Says.{kmerOf}
+use Rattle.kmer.proofs.Wide.{two-words}
+use Rattle.kmer.proofs.Windows.{Bases, packed-snoc, packed-append, packed-lt}
 
--- ---- what a letter's bits tell
+code-in : (b : ℕ) → codeOf (baseIn b) ≡ validBits b
+code-in b = code-letter (validBits b) (le-of-lt (valid-small b))
 
-bits-told : (t : Bool) (m n : ℕ) → cond t (Bits m) NoBase ≡ Bits n → (t ≡ true) × (n ≡ m)
-bits-told true m n e = (refl, cc)
-bits-told false m n e = let z : _≡_ {A = ℕ} 0 1 = cc in absurd (omega arith)
+bases-in : (s : List ℕ) → Bases (map baseIn s)
+bases-in [] = tt
+bases-in (b ∷ s) = (rw (code-in b) (valid-small b), bases-in s)
 
-pub none-told : (t : Bool) (m : ℕ) → cond t (Bits m) NoBase ≡ NoBase → t ≡ false
-none-told true m e = let z : _≡_ {A = ℕ} 0 1 = cc in absurd (omega arith)
-none-told false m e = refl
+onto-valid : (x : ℕ) (s : List ℕ) → Bases s → onto x (map baseIn s) ≡ onto x s
+unfolding onto
+onto-valid x [] h = refl
+onto-valid x (b ∷ s) h =
+    ap (λ (c : ℕ). onto (4 * x + c) (map baseIn s)) (code-in b ∙ valid-code b (lt-ltb (codeOf b) 4 (h .0)))
+    ∙ onto-valid (4 * x + codeOf b) s (h .1)
 
--- A byte's bits are known: it is a base, and they are its code.
-pub record Coded (byte bits : ℕ) : Type 0 where
-  pub base : isBase byte ≡ true
-  pub same : bits ≡ codeOf byte
-  pub small : bits < 4
+-- The bits of a base name that base.
+pub valid-packed : (s : List ℕ) → Bases s → validPacked s ≡ packed s
+valid-packed s h = onto-valid 0 s h
 
-pub coded : (byte bits : ℕ) → bitsWhere (λ c. c) byte ≡ Bits bits → Coded byte bits
-coded byte bits e =
-    let t = bits-told (isBase byte) (codeOf byte) bits e in
-    let l = ltb-true (codeOf byte) 4 (t .0) in
-    record { base = t .0; same = t .1; small = omega (arith, t .1) }
+-- ---- one word
 
--- ---- the loop
+-- Up to 32 letters have room in a word.
+word-lt : (s : List ℕ) → length s ≤ 32 → validPacked s < 2 ^ 64
+word-lt s h =
+    lt-of-lt-of-le (rw (length-map s baseIn) at (packed-lt (map baseIn s) (bases-in s))) (pow-le-pow-right (zero-lt-suc 3) h)
 
--- The first i letters of a text are bases and stand in the two words.
-pub record Packs (k : ℕ) (s : List ℕ) (i lo hi : ℕ) : Type 0 where
-  pub upto : i ≤ k
-  pub low : lo < 2 ^ 64
-  pub small : joined lo hi < 4 ^ i
-  pub sum : packed (take k s) ≡ onto (joined lo hi) (drop i (take k s))
-  pub scan : firstBad 0 (take k s) ≡ firstBad i (drop i (take k s))
+-- One letter more.
+pub word-more : (s : List ℕ) (i : ℕ) → length s ≤ 32 → i < length s →
+    (4 * validPacked (take i s) + validBits (getD s i 0)) % 2 ^ 64 ≡ validPacked (take (i + 1) s)
+word-more s i l h =
+    let more : take (i + 1) s ≡ take i s ++ (getD s i 0 ∷ []) = rw (add-one i) (take-suc s i 0 h) in
+    let e : validPacked (take (i + 1) s) ≡ 4 * validPacked (take i s) + validBits (getD s i 0) =
+    ap validPacked more
+    ∙ ap packed (map-append baseIn (take i s) (getD s i 0 ∷ []))
+    ∙ packed-snoc (map baseIn (take i s)) (baseIn (getD s i 0))
+    ∙ ap (λ (c : ℕ). 4 * validPacked (take i s) + c) (code-in (getD s i 0)) in
+    let n : length (take (i + 1) s) ≡ i + 1 = length-take-le (i + 1) s (omega arith) in
+    mod-eq-of-lt (rw e at (word-lt (take (i + 1) s) (omega arith))) ∙ sym e
 
-grow : (n p d : ℕ) → n < p → d < 4 → 4 * n + d < p * 4
-grow n p d h l = omega arith
+-- ---- two words
 
--- The high word of a number of at most 62 bases has room for one more.
-room : (lo hi : ℕ) → lo < 2 ^ 64 → joined lo hi < 4 ^ 62 → 4 * hi + lo / 2 ^ 62 < 2 ^ 64
-room lo hi h s =
-    let a : lo / 2 ^ 62 < 4 = div-lt-iff-lt-mul (pow-pos 62) .1 h in
-    let b : hi < 2 ^ 60 = rw (high-of lo hi h) at (shr-lt {n = joined lo hi} 60 64 s) in
-    omega arith
+module _ (k : ℕ) (s : List ℕ) where
+  -- All letters stand in the low word.
+  pub pack-low : k ≤ 32 → k ≤ length s → record { words = validPacked (take k s) ∷ 0 ∷ [] } ≡ kmerOf (validPacked (take k s))
+  pack-low h l =
+      let n : length (take k s) ≡ k = length-take-le k s l in
+      sym (two-words (validPacked (take k s)) (validPacked (take k s)) 0 (omega arith) (word-lt (take k s) (omega arith)))
 
-module _ (k : ℕ) (s : List ℕ) (long : k ≤ length s) where
-  pub packs-none : Packs k s 0 0 0
-  packs-none = record { upto = omega arith; low = omega arith; small = omega arith; sum = refl; scan = refl }
-
-  module _ {i lo hi : ℕ} (g : Packs k s i lo hi) where
-    next : i < k → drop i (take k s) ≡ getD s i 0 ∷ drop (suc i) (take k s)
-    next h =
-        drop-cons (take k s) i 0 (rw (length-take-le k s long) h)
-        ∙ ap (λ (b : ℕ). b ∷ drop (suc i) (take k s)) (getD-take k s i 0 h)
-
-    pub packs-more : (bits : ℕ) → k ≤ 63 → i < k → Coded (getD s i 0) bits →
-        Packs k s (i + 1) ((4 * lo + bits) % 2 ^ 64) ((4 * hi + lo / 2 ^ 62) % 2 ^ 64)
-    unfolding onto firstBad
-    packs-more bits hk h b =
-        let n : ℕ = joined lo hi in
-        let m : i ≤ 62 = omega arith in
-        let l : joined lo hi < 4 ^ 62 = lt-of-lt-of-le (g .small) (pow-le-pow-right (zero-lt-suc 3) m) in
-        let u : 4 * joined lo hi + bits ≡ joined ((4 * lo + bits) % 2 ^ 64) ((4 * hi + lo / 2 ^ 62) % 2 ^ 64) =
-        up lo hi bits (b .small) ∙ ap (joined ((4 * lo + bits) % 2 ^ 64)) (sym (mod-eq-of-lt (room lo hi (g .low) l))) in
-        let p : 4 ^ (i + 1) ≡ 4 ^ i * 4 = ap (λ (x : ℕ). 4 ^ x) (add-one i) ∙ pow-suc 4 i in
-        record {
-          upto = omega arith;
-          low = mod-lt _ (pow-pos 64);
-          small = subst₂ _<_ u (sym p) (grow n (4 ^ i) bits (g .small) (b .small));
-          sum =
-              g .sum ∙ ap (onto n) (next h)
-              ∙ rw (add-one i) (ap (λ (x : ℕ). onto x (drop (suc i) (take k s))) (ap (λ (d : ℕ). 4 * n + d) (sym (b .same)) ∙ u));
-          scan = g .scan ∙ ap (firstBad i) (next h) ∙ rw (add-one i) (simp (b .base));
-        }
-
-    -- The letter at i is none.
-    pub packs-bad : i < k → isBase (getD s i 0) ≡ false →
-        refuses 3 (i ∷ getD s i 0 ∷ []) ≡ packBases (take k s) (firstBad 0 (take k s))
-    unfolding firstBad packBases
-    packs-bad h b =
-        let e : firstBad i (getD s i 0 ∷ drop (suc i) (take k s)) ≡ i ∷ getD s i 0 ∷ [] = simp b in
-        sym (ap (packBases (take k s)) (g .scan ∙ ap (firstBad i) (next h) ∙ e))
-
-    -- All letters are packed.
-    pub packs-all : k ≤ i → gives (joined lo hi) ≡ packBases (take k s) (firstBad 0 (take k s))
-    unfolding onto firstBad packBases
-    packs-all h =
-        let e : drop i (take k s) ≡ [] = drop-of-length-le (take k s) {i = i} (rw (length-take-le k s long) h) in
-        sym (ap (packBases (take k s)) (g .scan ∙ ap (firstBad i) e) ∙ ap gives (g .sum ∙ ap (onto (joined lo hi)) e))
+  -- The last 32 stand in the low word, and the high word counts in units of 4 to the 32.
+  pub pack-both : 32 < k → k ≤ length s →
+      record { words = validPacked (take 32 (drop (k - 32) s)) ∷ validPacked (take (k - 32) s) ∷ [] } ≡ kmerOf (validPacked (take k s))
+  pack-both h l =
+      let m : k - 32 + 32 ≡ k = omega arith in
+      let d : 32 ≤ length (drop (k - 32) s) = simp length-drop (omega arith) in
+      let n : length (take 32 (drop (k - 32) s)) ≡ 32 = length-take-le 32 (drop (k - 32) s) d in
+      let high : List ℕ = take (k - 32) s in
+      let low : List ℕ = take 32 (drop (k - 32) s) in
+      let e : validPacked (take k s) ≡ validPacked high * 4 ^ length (map baseIn low) + validPacked low =
+      ap validPacked (rw m at (take-add (k - 32) 32 s))
+      ∙ ap packed (map-append baseIn high low) ∙ packed-append (map baseIn high) (map baseIn low) in
+      sym (two-words (validPacked (take k s)) (validPacked low) (validPacked high)
+      (e ∙ rw (length-map low baseIn, n) (omega arith)) (word-lt low (omega arith)))

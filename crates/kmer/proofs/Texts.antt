@@ -15,17 +15,18 @@ use lib.Seq.{take-length, ext-getD}
 use borrow.Author.Tests.{lt-ltb, le-ltb, eq-eqb, ne-eqb}
 use Rattle.lemmas.proofs.Numbers.{lt-or-ge, same-test}
 use Rattle.dna.specs.Answer.{gives}
-use Rattle.dna.specs.Letters.{codeOf, letterOf, complement, complementLetter, firstBad, reverseComplement}
+use Rattle.dna.specs.Letters.{codeOf, letterOf, complement, complementLetter, reverseComplement}
 use Rattle.dna.specs.Order.{before}
 use Rattle.dna.proofs.Letters.{code-letter}
 use Rattle.dna.proofs.Reversal.{length-reverseComplement, reverseComplement-at}
 use Rattle.kmer.specs.Kmer.{okK, packed, onto, rc, letters}
-use Rattle.kmer.specs.Calls.{packBases, packCall}
+use Rattle.kmer.specs.Calls.{withLetters, packBases, packCall}
 use Rattle.kmer.proofs.Wide.{four, four-pos}
 use Rattle.kmer.proofs.Spelling.{length-letters, letter-at}
 use Rattle.kmer.proofs.Turned.{rc-short}
 use Rattle.kmer.proofs.Strands.{rc-first}
 use Rattle.kmer.proofs.Windows.{Bases, packed-cons, packed-lt}
+use Rattle.kmer.proofs.Testing.{no-bad}
 
 -- ---- one letter
 
@@ -82,14 +83,9 @@ bases-letters zero x = tt
 bases-letters (suc k) x =
     let c : x / 4 ^ k % 4 < 4 = omega arith in (rw (code-letter (x / 4 ^ k % 4) (omega arith)) c, bases-letters k x)
 
-pub no-bad : (i : ℕ) (s : List ℕ) → Bases s → firstBad i s ≡ []
-unfolding firstBad
-no-bad i [] h = refl
-no-bad i (b ∷ s) h = simp (lt-ltb (codeOf b) 4 (h .0)) (no-bad (suc i) s (h .1))
-
 -- The call that packs gives back the k-mer.
 pub pack-letters : (K x : ℕ) → okK K ≡ true → x < 4 ^ K → packCall K (letters K x) ≡ gives x
-unfolding packCall packBases
+unfolding packCall withLetters packBases
 pack-letters K x t h =
     let n = length-letters K x in
     let whole : take K (letters K x) ≡ letters K x = ap (λ (k : ℕ). take k (letters K x)) (sym n) ∙ take-length (letters K x) in

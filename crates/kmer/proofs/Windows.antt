@@ -56,6 +56,10 @@ pub packed-snoc : (s : List ℕ) (b : ℕ) → packed (s ++ (b ∷ [])) ≡ 4 * 
 unfolding onto
 packed-snoc s b = onto-append 0 s (b ∷ [])
 
+-- A text before another: its number counts in units of 4 to the other's length.
+pub packed-append : (s t : List ℕ) → packed (s ++ t) ≡ packed s * 4 ^ length t + packed t
+packed-append s t = onto-append 0 s t ∙ onto-add (packed s) t
+
 pub packed-lt : (s : List ℕ) → Bases s → packed s < 4 ^ length s
 unfolding onto
 packed-lt [] h = omega arith

@@ -6,7 +6,7 @@ use lib.Dec.{ltb}
 use lib.ListN.{length, take}
 use Rattle.dna.specs.Answer.{Answer, gives, refuses, Filled, fill}
 use Rattle.dna.specs.Letters.{firstBad}
-use Rattle.kmer.specs.Kmer.{okK, joined, packed, baseAt, rc, canon, isCanon, forward, backward, letters}
+use Rattle.kmer.specs.Kmer.{okK, joined, packed, validPacked, baseAt, rc, canon, isCanon, forward, backward, letters}
 
 -- The refusal 1 of a K that is not from 1 to 63, beside which K is returned.
 abbrev pub withK : {A : Type 0} → ℕ → Answer A → Answer A
@@ -25,12 +25,17 @@ unfoldable pub packBases : List ℕ → List ℕ → Answer ℕ
 packBases s [] = gives (packed s)
 packBases s (place ∷ byte) = refuses 3 (place ∷ byte)
 
+-- The refusals 1 and 2 of a call that packs; beside 2 the length is returned.
+unfoldable pub withLetters : {A : Type 0} → ℕ → List ℕ → Answer A → Answer A
+withLetters K s answer = withK K (cond (ltb (length s) K) (refuses 2 (length s ∷ [])) answer)
+
 -- Packing reads the first K bytes and ignores the rest.
 unfoldable pub packCall : ℕ → List ℕ → Answer ℕ
-packCall K s =
-    withK K
-    (cond (ltb (length s) K) (refuses 2 (length s ∷ []))
-    (packBases (take K s) (firstBad 0 (take K s))))
+packCall K s = withLetters K s (packBases (take K s) (firstBad 0 (take K s)))
+
+-- Packing for a caller who knows that the first K bytes are bases: no byte is tested, and there is no 3.
+unfoldable pub validCall : ℕ → List ℕ → Answer ℕ
+validCall K s = withLetters K s (gives (validPacked (take K s)))
 
 -- A k-mer from its two words.
 abbrev pub wordsCall : ℕ → ℕ → ℕ → Answer ℕ
@@ -66,5 +71,5 @@ lettersCall K x slice =
 
 -- Opens this file's definitions to a proof that computes.
 unfoldable pub openCalls : Unit {0}
-unfolding packBases packCall
+unfolding packBases withLetters packCall validCall
 openCalls = tt

@@ -9,7 +9,7 @@ returns : tie.Need-returns
 returns c =
     let b = c .before .before .before .args .byte in
     let t = sym (c .before .before .is-dna-ascii .ensures) ∙ c .before .if1 .taken in
-    rw (c .valid-ascii-base-bits .ensures, valid-code b (search needs) t, t)
+    rw (c .valid-ascii-base-bits .ensures, valid-code b t, t)
 
 returns-2 : tie.Need-returns-2
 returns-2 c = rw (sym (c .before .is-dna-ascii .ensures) ∙ c .if1 .left)

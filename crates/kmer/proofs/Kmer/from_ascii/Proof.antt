@@ -1,46 +1,54 @@
 -- K is tested, then the length, then the letters. Assumes nothing.
-use mathlib.Core.Path.{_≡_, sym, _∙_}
-use mathlib.Core.Bool.{true}
-use borrow.Author.Tests.{not-true, not-false, lt-ltb, le-ltb}
-use lib.ListN.{length}
-use Rattle.kmer.specs.Kmer.{okK}
+use mathlib.Core.Path.{sym}
+use lib.Seq.{length-take-le}
 use Rattle.kmer.specs.Calls.{packCall}
-use Rattle.kmer.proofs.Bounds.{ok-bounds}
-use Rattle.kmer.proofs.Verdicts.{answers-refusal}
+use Rattle.kmer.proofs.Calls.{at-most, refuses-K, refuses-short, enough, refuses-bad, gives-packed}
 use borrow.Author.Needs.{needs}
 use Rattle.kmer.proofs.Kmer.from_ascii.Statement.{statement}
 use Rattle.kmer.proofs.Kmer.from_ascii.Tie as tie
 
 returns : tie.Need-returns
 unfolding packCall
-returns c =
-    answers-refusal _ (c .refused .ensures) (sym (simp (sym (c .before .before .supported .ensures) ∙ not-true _ (c .before .if1 .taken))))
+returns c = refuses-K _ _ _ (c .before .before .supported .ensures) (c .before .if1 .taken) (c .refused .ensures)
 
 returns-2 : tie.Need-returns-2
 unfolding packCall
 returns-2 c =
+    let k = c .before .before in
+    refuses-short _ _ _ (k .before .supported .ensures) (k .if1 .left) (c .before .if2 .taken) (c .refused2 .ensures)
+
+slice-aggregate-bases-verdict : tie.Need-slice-aggregate-bases-verdict
+slice-aggregate-bases-verdict c =
     let a = c .before .before .before .before .before .args in
-    answers-refusal _ (c .refused2 .ensures)
-    (sym
-    (simp (
-      sym (c .before .before .before .supported .ensures) ∙ not-false _ (c .before .before .if1 .left),
-      lt-ltb (length (a .seq .now)) (a .k) (c .before .if2 .taken),
-    )))
+    sym (length-take-le (a .k) (a .seq .now) (c .before .if2 .left))
 
 pack-requires : tie.Need-pack-requires
 pack-requires c κs =
-    let k = c .before .before .before .before .args .k in
-    (ok-bounds k (sym (c .before .before .supported .ensures) ∙ not-false _ (c .before .if1 .left)) .1, c .if2 .left)
+    let long = c .before .before .before .before in
+    let k = long .before in
+    (at-most (k .before .before .before .args .k) (k .before .supported .ensures) (k .if1 .left), long .if2 .left)
 
 returns-3 : tie.Need-returns-3
 unfolding packCall
 returns-3 c =
-    let a = c .before .before .before .before .before .args in
-    let t : okK (a .k) ≡ true = sym (c .before .before .before .supported .ensures) ∙ not-false _ (c .before .before .if1 .left) in
-    simp (t, le-ltb (length (a .seq .now)) (a .k) (c .before .if2 .left)) (c .pack .ensures)
+    let tested = c .before .before .before .before in
+    let long = tested .before .before in
+    let k = long .before in
+    enough _ _ _ (k .before .supported .ensures) (k .if1 .left) (long .if2 .left)
+    (refuses-bad _ (tested .bases-verdict .ensures) (c .before .before .e .given .1) (c .refused3 .ensures))
+
+returns-4 : tie.Need-returns-4
+unfolding packCall
+returns-4 c =
+    let tested = c .before .before .before in
+    let long = tested .before .before in
+    let k = long .before in
+    enough _ _ _ (k .before .supported .ensures) (k .if1 .left) (long .if2 .left)
+    (gives-packed _ (tested .bases-verdict .ensures) (c .before .enum-told .given .1) (c .pack .ensures))
 
 pub from-ascii-spec : {M : Type 1} → statement M
 from-ascii-spec =
     tie.close
-    (tie.spec (λ c κs. search needs) (λ c κs. search needs) returns (λ c κs. search needs) returns-2 pack-requires
-    returns-3)
+    (tie.spec (λ c κs. search needs) (λ c κs. search needs) returns (λ c κs. search needs) returns-2
+    slice-aggregate-bases-verdict (λ c κs. search needs) (λ c. search needs) (λ c κs. search needs) (λ c. search needs)
+    pack-requires returns-3 returns-4)

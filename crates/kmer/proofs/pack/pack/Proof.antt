@@ -1,59 +1,47 @@
--- The loop's invariant: the letters so far are bases and stand in the two words. The measure is the letters that are left.
--- Assumes nothing.
-use mathlib.Core.Path.{refl, sym, _∙_}
+-- Up to 32 letters fill one word; of more, the last 32 do. Assumes nothing.
+use mathlib.Core.Path.{_≡_, sym}
 use Prim.Native.Nat.{_-_}
-use denote.Ref.{now}
-use lib.ListN.{getD}
-use Rattle.kmer.specs.Kmer.{joined}
-use Rattle.dna.specs.Letters.{codeOf, isBase}
-use Rattle.kmer.proofs.Wide.{two-words}
-use Rattle.kmer.proofs.Verdicts.{answers-refusal, answers-gives}
-use Rattle.kmer.proofs.Packing.{Packs, packs-none, packs-more, packs-bad, packs-all, coded, none-told}
+use native.Mathlib.Omega.{arith}
+use lib.ListN.{length-take}
+use lib.Seq.{length-take-le}
+use Rattle.kmer.proofs.Packing.{pack-low, pack-both}
 use borrow.Author.Needs.{needs}
 use Rattle.kmer.proofs.pack.pack.Statement.{statement}
 use Rattle.kmer.proofs.pack.pack.Tie as tie
 
-abbrev Inv-loop : tie.InvT-loop
-Inv-loop k seq lo₀ hi₀ i₀ lo hi i = Packs k seq i lo hi
+slice-aggregate-word-of : tie.Need-slice-aggregate-word-of
+slice-aggregate-word-of c =
+    let s = c .before .before .before in sym (length-take-le (s .args .k) (s .args .seq .now) (s .pre .1))
 
-abbrev μ-loop : tie.MeasureT-loop
-μ-loop k seq lo₀ hi₀ i₀ lo hi i = k - i
+word-of-requires : tie.Need-word-of-requires
+word-of-requires c κs = simp length-take (omega arith)
 
-loop-holds : tie.Need-loop-holds Inv-loop μ-loop
-loop-holds c = let s = c .before in packs-none (s .args .k) (now (s .args .seq)) (s .pre .1)
-
-returns : tie.Need-returns Inv-loop μ-loop
+returns : tie.Need-returns
 returns c =
-    let s = c .before .before .before .before .before .before .before .before in
-    let l = c .before .before .before .before .before .before .loop in
-    let byte = getD (now (s .args .seq)) (l .i) 0 in
-    answers-refusal _ (c .refused .ensures)
-    (packs-bad (s .args .k) (now (s .args .seq)) (s .pre .1) (l .inv) (c .before .before .before .before .before .loop-test .taken)
-    (none-told (isBase byte) (codeOf byte) (sym (c .before .before .before .ascii-base-bits .ensures) ∙ c .before .enum-told .given .1)))
+    let s = c .before .before .before .before in
+    rw (c .word-of .ensures) (pack-low (s .args .k) (s .args .seq .now) (c .before .before .if1 .taken) (s .pre .1))
 
-push-low-requires-2 : tie.Need-push-low-requires-2 Inv-loop μ-loop
-push-low-requires-2 c κs =
-    coded _ _ (sym (c .before .before .before .before .ascii-base-bits .ensures) ∙ c .before .before .bits .given .1) .small
+word-of-requires-2 : tie.Need-word-of-requires-2
+word-of-requires-2 c κs = simp length-take (omega arith)
 
-loop-again : tie.Need-loop-again Inv-loop μ-loop
-loop-again c =
-    let s = c .before .before .before .before .before .before .before .before .before .before in
-    let l = c .before .before .before .before .before .before .before .before .loop in
-    rw (c .push-low2 .ensures, c .before .push-low .ensures)
-    (packs-more (s .args .k) (now (s .args .seq)) (s .pre .1) (l .inv) _ (s .pre .0)
-    (c .before .before .before .before .before .before .before .loop-test .taken)
-    (coded _ _ (sym (c .before .before .before .before .before .ascii-base-bits .ensures) ∙ c .before .before .before .bits .given .1)))
+slice-aggregate-word-of-2 : tie.Need-slice-aggregate-word-of-2
+slice-aggregate-word-of-2 c =
+    let s = c .before .before .before .before .before in
+    sym (length-take-le (s .args .k - 32) (s .args .seq .now) (omega arith))
 
-returns-2 : tie.Need-returns-2 Inv-loop μ-loop
+word-of-requires-3 : tie.Need-word-of-requires-3
+word-of-requires-3 c κs = simp length-take (omega arith)
+
+returns-2 : tie.Need-returns-2
 returns-2 c =
-    let s = c .before .before .before in
-    let l = c .before .loop in
-    answers-gives (joined (l .lo) (l .hi)) (sym (two-words _ (l .lo) (l .hi) refl (l .inv .low)))
-    (packs-all (s .args .k) (now (s .args .seq)) (s .pre .1) (l .inv) (c .loop-test .left))
+    let s = c .before .before .before .before .before .before in
+    let k = s .args .k in
+    let e : s .args .k - (s .args .k - 32) ≡ 32 = omega arith in
+    rw (c .before .before .word-of2 .ensures, c .word-of3 .ensures, e)
+    (pack-both k (s .args .seq .now) (c .before .before .before .before .if1 .left) (s .pre .1))
 
 pub pack-spec : {M : Type 1} → statement M
 pack-spec =
     tie.close
-    (tie.spec Inv-loop μ-loop loop-holds (λ c. search needs) (λ c κs. search needs) (λ c. search needs)
-    (λ c κs. search needs) returns (λ c. search needs) (λ c κs. search needs) (λ c. search needs) push-low-requires-2
-    (λ c. search needs) (λ c. search needs) loop-again returns-2)
+    (tie.spec slice-aggregate-word-of word-of-requires returns (λ c. search needs) (λ c. search needs)
+    (λ c. search needs) (λ c. search needs) word-of-requires-2 slice-aggregate-word-of-2 word-of-requires-3 returns-2)
