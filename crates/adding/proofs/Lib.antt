@@ -1,6 +1,5 @@
 pub mod Seeing
 pub mod Neighbours
-pub mod Testing
 pub mod Rowing
 pub mod Raising
 pub mod Finding

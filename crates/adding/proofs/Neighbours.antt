@@ -6,9 +6,9 @@ use Prim.Native.Nat.{ℕ, zero, suc, _+_, _-_, _*_, _<_, _≤_}
 use native.Mathlib.Omega.{arith}
 use lib.Dec.{ltb, eqb}
 use lib.ListN.{length, getD}
-use borrow.Author.Tests.{ltb-true, ltb-false, lt-ltb, le-ltb, eqb-true, eq-eqb, ne-eqb}
+use borrow.Author.Tests.{ltb-true, ltb-false, lt-ltb, le-ltb, eq-eqb, ne-eqb}
 use Rattle.dna.specs.Letters.{codeOf, complement, validBits}
-use Rattle.dna.proofs.Letters.{valid-bits}
+use Rattle.dna.proofs.Letters.{valid-code}
 use Rattle.kmer.specs.Kmer.{canon, isCanon}
 use Rattle.kmer.proofs.Windows.{Bases, bases-at}
 use Rattle.graph.specs.Sightings.{sameCanonical, window, predecessor, successor}
@@ -51,11 +51,9 @@ module _ (K : ℕ) (label : List ℕ) where
   last-none o h = rw (le-ltb (o + K) (length label) h)
 
 -- A byte of a label of bases has its code in two of its bits.
-pub bits-code : (label : List ℕ) (i : ℕ) → i < length label → Bases label → getD label i 0 < 256
+pub bits-code : (label : List ℕ) (i : ℕ) → i < length label → Bases label
     → validBits (getD label i 0) ≡ codeOf (getD label i 0)
-bits-code label i h b l =
-    eqb-true (validBits (getD label i 0)) (codeOf (getD label i 0))
-    (valid-bits (getD label i 0) l ∙ lt-ltb (codeOf (getD label i 0)) 4 (bases-at label i h b))
+bits-code label i h b = valid-code (getD label i 0) (lt-ltb (codeOf (getD label i 0)) 4 (bases-at label i h b))
 
 pub complement-is : (c : ℕ) → c < 4 → 3 - c ≡ complement c
 unfolding complement

@@ -8,11 +8,11 @@ use borrow.Author.Tests.{lt-ltb, le-ltb}
 use Rattle.dna.specs.Letters.{firstBad}
 use Rattle.kmer.specs.Kmer.{okK}
 use Rattle.kmer.proofs.Bounds.{ok-bounds}
+use Rattle.kmer.proofs.Testing.{no-bad-bases}
 use Rattle.state.specs.Counted.{fourBits}
 use Rattle.graph.specs.Table.{fit}
 use Rattle.graph.specs.Sightings.{sameCanonical}
 use Rattle.graph.specs.Adding.{Added, addBases, addLabel}
-use Rattle.graph.proofs.Accepted.{no-bad-bases}
 use Rattle.table.specs.Calls.{fitAnswer, fitCall}
 use Rattle.table.specs.declared.FitAnswer.{FitAnswer}
 use Rattle.table.specs.declared.FitAnswer.the-variants.{Fit, Unfit, UnsupportedK}

@@ -1,20 +1,20 @@
 -- What an answer of adding says of the label and of the two slices: one that is no refusal, and a refusal. Assumes nothing.
 use mathlib.Core.Path.{_≡_, refl, sym, ap, _∙_}
-use mathlib.Core.Bool.{Bool, true, false, cond, not}
+use mathlib.Core.Bool.{true, not}
 use mathlib.Core.Logic.{inl, inr}
 use mathlib.Core.List.{List, [], _∷_}
-use Prim.Native.Nat.{ℕ, suc, _-_, _*_, _≤_, _<_}
+use Prim.Native.Nat.{ℕ, _-_, _*_, _≤_, _<_}
 use native.Mathlib.Omega.{arith}
 use lib.Dec.{ltb, leb}
 use lib.ListN.{length, drop, length-append, length-take, length-drop}
 use lib.Seq.{take-at, drop-at}
 use borrow.Author.Tests.{ltb-true, ltb-false, leb-true, not-false}
 use Rattle.lemmas.proofs.Tests.{choose, both}
-use Rattle.dna.specs.Letters.{codeOf, isBase, firstBad}
+use Rattle.dna.specs.Letters.{firstBad}
 use Rattle.dna.specs.Answer.{Answer, gives, refuses}
 use Rattle.dna.specs.Text.{over}
 use Rattle.kmer.specs.Kmer.{okK}
-use Rattle.kmer.proofs.Windows.{Bases}
+use Rattle.kmer.proofs.Testing.{no-bad-bases}
 use Rattle.state.specs.Counted.{Kind}
 use Rattle.graph.specs.Table.{Table, tableOf, keysOf, wordsOf, capacity, fit, fitFrom, stored}
 use Rattle.graph.specs.Sightings.{Rule}
@@ -49,16 +49,6 @@ table-over t keys counts n =
 -- Writing touches nothing past what is written.
 past : (text slice : List ℕ) (n : ℕ) → length text ≡ n → drop n (over text slice) ≡ drop n slice
 past text slice n e = drop-at text (drop (length text) slice) n e ∙ ap (λ (m : ℕ). drop m slice) e
-
--- A text whose first bad place is none has bases alone.
-pub no-bad-bases : (i : ℕ) (s : List ℕ) → firstBad i s ≡ [] → Bases s
-unfolding firstBad
-no-bad-bases i [] h = tt
-no-bad-bases i (b ∷ s) h = go (isBase b) refl (no-bad-bases (suc i) s) h
-  where
-    go : (t : Bool) → isBase b ≡ t → (firstBad (suc i) s ≡ [] → Bases s) → cond t (firstBad (suc i) s) (i ∷ b ∷ []) ≡ [] → Bases (b ∷ s)
-    go true e f q = (ltb-true (codeOf b) 4 e, f q)
-    go false e f q = let z : _≡_ {A = ℕ} 0 1 = cc in absurd (omega arith)
 
 module _ (κ : Kind) (rule : Rule) (K n : ℕ) (keys counts label : List ℕ) where
   -- What a label that is not refused is, and what it leaves.

@@ -4,7 +4,7 @@ use mathlib.Core.Path.{_≡_, refl, sym, _∙_}
 use Prim.Native.Nat.{_≤_, _-_}
 use lib.ListN.{length, drop}
 use Rattle.dna.specs.Letters.{firstBad}
-use Rattle.adding.proofs.Testing.{bad-behind, bad-here, bad-nowhere}
+use Rattle.kmer.proofs.Testing.{bad-behind, bad-here, bad-nowhere}
 use borrow.Author.Needs.{needs}
 use Rattle.adding.proofs.label.first_bad.Statement.{statement}
 use Rattle.adding.proofs.label.first_bad.Tie as tie

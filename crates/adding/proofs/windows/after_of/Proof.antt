@@ -11,7 +11,7 @@ returns c =
     let s = c .before .before .before .before in
     let e = s .args .o + s .args .k in
     c .valid-ascii-base-bits .ensures
-    ∙ bits-code (s .args .label .now) e (c .before .before .if1 .taken) (s .pre .0 .bases) (c .before .shared-slice-known2 .given e .fits)
+    ∙ bits-code (s .args .label .now) e (c .before .before .if1 .taken) (s .pre .0 .bases)
     ∙ next-counts (s .args .k) (s .args .label .now) (s .args .o) (c .before .before .if1 .taken)
 
 returns-2 : tie.Need-returns-2

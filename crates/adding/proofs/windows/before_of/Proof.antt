@@ -28,7 +28,7 @@ returns-3 c =
     let label = s .args .label .now in
     let i : s .args .o - 1 < length label = omega (arith, s .pre .1, s .pre .0 .low) in
     c .valid-ascii-base-bits .ensures
-    ∙ bits-code label (s .args .o - 1) i (s .pre .0 .bases) (c .before .shared-slice-known2 .given (s .args .o - 1) .fits)
+    ∙ bits-code label (s .args .o - 1) i (s .pre .0 .bases)
     ∙ predecessor-is (s .args .k) label (s .args .o) (valueOf (s .args .previous)) (valueOf (s .args .here))
     (tested .before .if1 .left) (s .pre .2 .previous) (s .pre .2 .here) false
     (sym (tested .is-same .ensures) ∙ c .before .before .if2 .left)
