@@ -4,10 +4,11 @@ use mathlib.Core.Bool.{Bool, true, false, cond, _&&_}
 use mathlib.Core.List.{List, [], _∷_}
 use Prim.Native.Nat.{ℕ, suc, _+_, _-_, _*_, _/_, _^_, _≤_, _<_}
 use native.Mathlib.Omega.{arith}
-use borrow.Author.Tests.{le-leb, lt-leb}
+use borrow.Author.Tests.{le-leb, lt-leb, ltb-true}
 use lib.Dec.{ltb, leb}
 use lib.ListN.{length, drop}
 use lib.Seq.{drop-cons}
+use Rattle.lemmas.proofs.Tests.{both}
 use Rattle.dna.specs.Answer.{gives, refuses}
 use Rattle.kmer.specs.Kmer.{okK, isCanon}
 use Rattle.kmer.specs.Calls.{isCanonCall}
@@ -30,14 +31,23 @@ yes-is K x r k e = ap yes (test-told r ∙ ap testIn e) ∙ rw k (go (ltb x (4 ^
     go true = refl
     go false = refl
 
--- The first i keys have passed, the next has to be at least some number, and the whole is as the rest is.
+-- The next key has to be at least some number: a k-mer below that fails, and any other passes as it is a key.
+module _ (K least x : ℕ) where
+  pub too-low : x < least → false ≡ leb least x && ltb x (4 ^ K) && isCanon K x
+  too-low l = rw (lt-leb least x l)
+
+  pub not-low : {t : Bool} → least ≤ x → t ≡ ltb x (4 ^ K) && isCanon K x → t ≡ leb least x && ltb x (4 ^ K) && isCanon K x
+  not-low l e = e ∙ rw (le-leb least x l)
+
+-- The first i keys have passed, the next has to be at least some number up to 4 to the K, and the whole is as the rest is.
 pub record Passed (K n : ℕ) (keys : List ℕ) (least i : ℕ) : Type 0 where
   pub upto : i ≤ n
+  pub bounded : least ≤ 4 ^ K
   pub rest : fitFrom K 0 (keysOf n keys) ≡ fitFrom K least (keysOf (n - i) (drop (2 * i) keys))
 
 module _ (K n : ℕ) (keys : List ℕ) where
   pub passed-none : Passed K n keys 0 0
-  passed-none = let e : n - 0 ≡ n = omega arith in record { upto = omega arith; rest = rw e }
+  passed-none = let e : n - 0 ≡ n = omega arith in record { upto = omega arith; bounded = omega arith; rest = rw e }
 
   pub passed-all : {least i : ℕ} → Passed K n keys least i → n ≤ i → true ≡ fitFrom K 0 (keysOf n keys)
   unfolding fitFrom keysOf
@@ -57,21 +67,15 @@ module _ (K n : ℕ) (keys : List ℕ) where
         rw (a, d, e, q, s)
 
     tests : fitFrom K 0 (keysOf n keys)
-        ≡ leb least (key keys i) && (ltb (key keys i) (4 ^ K) && isCanon K (key keys i))
+        ≡ leb least (key keys i) && ltb (key keys i) (4 ^ K) && isCanon K (key keys i)
         && fitFrom K (suc (key keys i)) (keysOf (n - (i + 1)) (drop (2 * (i + 1)) keys))
     unfolding fitFrom
-    tests = p .rest ∙ rw first (and (leb least (key keys i)) (ltb (key keys i) (4 ^ K)) _ _)
-      where
-        and : (a b c d : Bool) → a && b && c && d ≡ a && (b && c) && d
-        and true b c d = refl
-        and false b c d = refl
+    tests = p .rest ∙ rw first
 
-    pub not-above : key keys i < least → false ≡ fitFrom K 0 (keysOf n keys)
-    not-above a = sym (tests ∙ rw (lt-leb least (key keys i) a))
+    pub not-passed : false ≡ leb least (key keys i) && ltb (key keys i) (4 ^ K) && isCanon K (key keys i) → false ≡ fitFrom K 0 (keysOf n keys)
+    not-passed e = sym (tests ∙ rw (sym e))
 
-    module _ (a : least ≤ key keys i) where
-      pub no-key : false ≡ ltb (key keys i) (4 ^ K) && isCanon K (key keys i) → false ≡ fitFrom K 0 (keysOf n keys)
-      no-key e = sym (tests ∙ rw (le-leb least (key keys i) a, sym e))
-
-      pub passed-more : true ≡ ltb (key keys i) (4 ^ K) && isCanon K (key keys i) → Passed K n keys (suc (key keys i)) (i + 1)
-      passed-more e = record { upto = omega arith; rest = tests ∙ rw (le-leb least (key keys i) a, sym e) }
+    pub passed-more : true ≡ leb least (key keys i) && ltb (key keys i) (4 ^ K) && isCanon K (key keys i) → Passed K n keys (suc (key keys i)) (i + 1)
+    passed-more e =
+        let b = both (leb least (key keys i)) _ (both (leb least (key keys i) && ltb (key keys i) (4 ^ K)) _ (sym e) .0) .1 in
+        record { upto = omega arith; bounded = ltb-true (key keys i) (4 ^ K) b; rest = tests ∙ rw (sym e) }

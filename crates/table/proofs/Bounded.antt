@@ -5,7 +5,6 @@ use mathlib.Core.List.{List}
 use Prim.Native.Nat.{ℕ, _%_, _^_, _<_}
 use native.Mathlib.Omega.{arith}
 use borrow.Author.Tests.{lt-ltb, ltb-true, leb-true}
-use lib.Bits.{bitAnd, and-mask, mask-lt}
 use lib.Dec.{ltb, leb}
 use lib.ListN.{getD}
 use Rattle.lemmas.proofs.Tests.{choose}
@@ -16,11 +15,20 @@ use Rattle.table.specs.Bounds.{boundOf, Bounds}
 bounded : (k x : ℕ) → x < boundOf k (x % 256) → Key k x
 bounded k x = choose (λ (n : ℕ). x < n → Key k x) (leb 5 k) (λ a l. ahead k x (omega (arith, leb-true 5 k a)) l) (λ _ l. absurd (omega arith))
 
--- The same by words, the bounds being held in two slices.
-pub bounded-key : (k : ℕ) (lows highs : List ℕ) (lo hi : ℕ) → Bounds k lows highs
-    → true ≡ ltb (joined lo hi) (joined (getD lows (bitAnd lo 255) 0) (getD highs (bitAnd lo 255) 0))
-    → true ≡ ltb (joined lo hi) (4 ^ k) && isCanon k (joined lo hi)
-bounded-key k lows highs lo hi b t =
-    let e : joined lo hi % 256 ≡ bitAnd lo 255 = omega (arith, and-mask lo 8) in
-    let p = bounded k (joined lo hi) (rw (e, ← b (bitAnd lo 255) (mask-lt lo 8)) (ltb-true _ _ (sym t))) in
+-- The same as a test, by words.
+pub bounded-key : (k lo hi b : ℕ) → b ≡ lo % 256 → joined lo hi < boundOf k b → ltb (joined lo hi) (4 ^ k) && isCanon k (joined lo hi) ≡ true
+bounded-key k lo hi b q l =
+    let e : joined lo hi % 256 ≡ b = omega arith in
+    let p = bounded k (joined lo hi) (rw e l) in
     rw (lt-ltb _ _ (p .0), p .1)
+
+-- The bounds being held in two slices: the k-mer is below its bound, or its high word is below that of the bound.
+module _ (k : ℕ) (lows highs : List ℕ) (h : Bounds k lows highs) (lo hi b : ℕ) (q : b ≡ lo % 256) where
+  under : joined lo hi < joined (getD lows b 0) (getD highs b 0) → ltb (joined lo hi) (4 ^ k) && isCanon k (joined lo hi) ≡ true
+  under l = bounded-key k lo hi b q (rw (sym (h b (omega arith))) l)
+
+  pub told-whole : ltb (joined lo hi) (joined (getD lows b 0) (getD highs b 0)) ≡ true → ltb (joined lo hi) (4 ^ k) && isCanon k (joined lo hi) ≡ true
+  told-whole t = under (ltb-true _ _ t)
+
+  pub told-high : lo < 2 ^ 64 → ltb hi (getD highs b 0) ≡ true → ltb (joined lo hi) (4 ^ k) && isCanon k (joined lo hi) ≡ true
+  told-high f t = under (omega (arith, ltb-true hi (getD highs b 0) t))

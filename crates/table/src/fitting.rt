@@ -1,13 +1,13 @@
 // Whether a table is fit.
 ghost use mathlib.Core.Path.{_≡_};
 ghost use mathlib.Core.Bool.{true, _&&_};
-ghost use Prim.Native.Nat.{_/_, _^_, _≤_, _<_};
+ghost use Prim.Native.Nat.{_/_, _%_, _^_, _≤_, _<_};
 ghost use lib.Dec.{ltb};
 ghost use lib.ListN.{length};
 ghost use Rattle.kmer.specs.Kmer.{okK, joined, isCanon, rc};
 ghost use Rattle.kmer.specs.Says.{valueOf};
 ghost use Rattle.graph.specs.Table.{keysOf, fitFrom};
-ghost use Rattle.table.specs.Bounds.{boundOf, Bounds};
+ghost use Rattle.table.specs.Bounds.{boundOf, Bounds, AtMostBounds};
 ghost use Rattle.table.specs.Calls.{fitCall, fitAnswer};
 use super::FitAnswer;
 use super::capacity;
@@ -77,8 +77,62 @@ fn below(low: u64, high: u64, other_low: u64, other_high: u64) -> bool
     high < other_high
 }
 
-// Each key is above the one before it, and a key. Below the bound of its last four bases it begins before its reverse complement
-// does and is canonical: so most keys are told without their reverse complements.
+// The last four bases of a k-mer.
+fn last_four(l: u64) -> usize
+    ensures { λ r. ⌜ r ≡ l % 256 ⌝ }
+{
+    (l & 0xff) as usize
+}
+
+// The bound of its last four bases tells that a k-mer is a key: below it, it begins before its reverse complement does. From K = 36
+// on the low words of the bounds are 0, so that the high words decide.
+fn is_told(k: usize, l: u64, h: u64, lows: &[u64], highs: &[u64]) -> bool
+    requires { ⌜ (length (now lows) ≡ 256) × (length (now highs) ≡ 256) × Bounds k (now lows) (now highs) ⌝ }
+    ensures { λ r. ⌜ (r ≡ true → ltb (joined l h) (4 ^ k) && isCanon k (joined l h) ≡ true) ⌝ }
+{
+    let b = last_four(l);
+    if k < 36 {
+        return below(l, h, lows[b], highs[b]);
+    }
+    h < highs[b]
+}
+
+// The same as `follows` for K up to 32, where a key is its low word: a k-mer with a high word is too large.
+fn low_follows(k: usize, low: u64, l: u64, h: u64, lows: &[u64]) -> bool
+    requires { ⌜ (okK k ≡ true) × (k ≤ 32) × (length (now lows) ≡ 256) × AtMostBounds k (now lows) ⌝ }
+    ensures { λ r. ⌜ r ≡ ltb low (joined l h) && ltb (joined l h) (4 ^ k) && isCanon k (joined l h) ⌝ }
+{
+    if 0 < h {
+        return false;
+    }
+    if l <= low {
+        return false;
+    }
+    if l < lows[last_four(l)] {
+        return true;
+    }
+    is_key(k, l, 0)
+}
+
+// The k-mer of the words l and h is a key, and above the key before it. So most keys are told without their reverse complements.
+fn follows(k: usize, low: u64, high: u64, l: u64, h: u64, lows: &[u64], highs: &[u64]) -> bool
+    requires { ⌜ (okK k ≡ true) × (joined low high < 4 ^ k) × (length (now lows) ≡ 256) × (length (now highs) ≡ 256) × Bounds k (now lows) (now highs) ⌝ }
+    ensures { λ r. ⌜ r ≡ ltb (joined low high) (joined l h) && ltb (joined l h) (4 ^ k) && isCanon k (joined l h) ⌝ }
+{
+    if k <= 32 {
+        return low_follows(k, low, l, h, lows);
+    }
+    if !below(low, high, l, h) {
+        return false;
+    }
+    if is_told(k, l, h, lows, highs) {
+        return true;
+    }
+    is_key(k, l, h)
+}
+
+// The first k-mer is a key, and each other one follows the one before it. The cases of K are asked of each key: the compiler makes a
+// loop of each.
 fn all_fit(k: usize, n: usize, keys: &[u64], lows: &[u64], highs: &[u64]) -> bool
     requires { ⌜ (okK k ≡ true) × (0 < n) × (n ≤ length (now keys) / 2) × (length (now lows) ≡ 256) × (length (now highs) ≡ 256) × Bounds k (now lows) (now highs) ⌝ }
     ensures { λ r. ⌜ r ≡ fitFrom k 0 (keysOf n (now (keys .entry))) ⌝ }
@@ -92,46 +146,11 @@ fn all_fit(k: usize, n: usize, keys: &[u64], lows: &[u64], highs: &[u64]) -> boo
     while i < n {
         let l = keys[2 * i];
         let h = keys[2 * i + 1];
-        if !below(low, high, l, h) {
+        if !follows(k, low, high, l, h, lows, highs) {
             return false;
-        }
-        let b = (l & 0xff) as usize;
-        if !below(l, h, lows[b], highs[b]) {
-            if !is_key(k, l, h) {
-                return false;
-            }
         }
         low = l;
         high = h;
-        i += 1;
-    }
-    true
-}
-
-// The same where a k-mer stands in its low word: a key with a high word is too large.
-fn low_fit(k: usize, n: usize, keys: &[u64], lows: &[u64], highs: &[u64]) -> bool
-    requires { ⌜ (okK k ≡ true) × (k ≤ 32) × (0 < n) × (n ≤ length (now keys) / 2) × (length (now lows) ≡ 256) × Bounds k (now lows) (now highs) ⌝ }
-    ensures { λ r. ⌜ r ≡ fitFrom k 0 (keysOf n (now (keys .entry))) ⌝ }
-{
-    let mut low = keys[0];
-    if !is_key(k, low, keys[1]) {
-        return false;
-    }
-    let mut i = 1;
-    while i < n {
-        let l = keys[2 * i];
-        if 0 < keys[2 * i + 1] {
-            return false;
-        }
-        if l <= low {
-            return false;
-        }
-        if lows[(l & 0xff) as usize] <= l {
-            if !is_key(k, l, 0) {
-                return false;
-            }
-        }
-        low = l;
         i += 1;
     }
     true
@@ -147,9 +166,6 @@ fn keys_fit(k: usize, n: usize, keys: &[u64]) -> bool
     let mut lows = [0u64; 256];
     let mut highs = [0u64; 256];
     make_bounds(k, &mut lows, &mut highs);
-    if k <= 32 {
-        return low_fit(k, n, keys, &lows, &highs);
-    }
     all_fit(k, n, keys, &lows, &highs)
 }
 
