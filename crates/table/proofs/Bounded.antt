@@ -2,7 +2,7 @@
 use mathlib.Core.Path.{_≡_, sym}
 use mathlib.Core.Bool.{true, _&&_}
 use mathlib.Core.List.{List}
-use Prim.Native.Nat.{ℕ, _%_, _^_, _<_}
+use Prim.Native.Nat.{ℕ, _+_, _*_, _/_, _%_, _^_, _≤_, _<_}
 use native.Mathlib.Omega.{arith}
 use borrow.Author.Tests.{lt-ltb, ltb-true, leb-true}
 use lib.Dec.{ltb, leb}
@@ -22,13 +22,15 @@ bounded-key k lo hi b q l =
     let p = bounded k (joined lo hi) (rw e l) in
     rw (lt-ltb _ _ (p .0), p .1)
 
--- The bounds being held in two slices: the k-mer is below its bound, or its high word is below that of the bound.
+-- The bounds being held in two slices: the k-mer's high word is below that of its bound, or without their last three bases, where
+-- these are one word, it is below it.
 module _ (k : ℕ) (lows highs : List ℕ) (h : Bounds k lows highs) (lo hi b : ℕ) (q : b ≡ lo % 256) where
   under : joined lo hi < joined (getD lows b 0) (getD highs b 0) → ltb (joined lo hi) (4 ^ k) && isCanon k (joined lo hi) ≡ true
   under l = bounded-key k lo hi b q (rw (sym (h b (omega arith))) l)
 
-  pub told-whole : ltb (joined lo hi) (joined (getD lows b 0) (getD highs b 0)) ≡ true → ltb (joined lo hi) (4 ^ k) && isCanon k (joined lo hi) ≡ true
-  told-whole t = under (ltb-true _ _ t)
-
   pub told-high : lo < 2 ^ 64 → ltb hi (getD highs b 0) ≡ true → ltb (joined lo hi) (4 ^ k) && isCanon k (joined lo hi) ≡ true
   told-high f t = under (omega (arith, ltb-true hi (getD highs b 0) t))
+
+  pub told-leading : hi ≤ 63 → (x y : ℕ) → x ≡ hi % 64 * 2 ^ 58 + lo / 64 → y ≡ getD highs b 0 % 64 * 2 ^ 58 + getD lows b 0 / 64
+      → ltb x y ≡ true → ltb (joined lo hi) (4 ^ k) && isCanon k (joined lo hi) ≡ true
+  told-leading f x y p r t = under (omega (arith, ltb-true x y t))

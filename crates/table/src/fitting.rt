@@ -1,7 +1,7 @@
 // Whether a table is fit.
 ghost use mathlib.Core.Path.{_≡_};
 ghost use mathlib.Core.Bool.{true, _&&_};
-ghost use Prim.Native.Nat.{_/_, _%_, _^_, _≤_, _<_};
+ghost use Prim.Native.Nat.{_+_, _*_, _/_, _%_, _^_, _≤_, _<_};
 ghost use lib.Dec.{ltb};
 ghost use lib.ListN.{length};
 ghost use Rattle.kmer.specs.Kmer.{okK, joined, isCanon, rc};
@@ -84,17 +84,28 @@ fn last_four(l: u64) -> usize
     (l & 0xff) as usize
 }
 
-// The bound of its last four bases tells that a k-mer is a key: below it, it begins before its reverse complement does. From K = 36
-// on the low words of the bounds are 0, so that the high words decide.
+// A k-mer of at most 35 bases without its last three: one word.
+fn but_three(l: u64, h: u64) -> u64
+    ensures { λ r. ⌜ r ≡ h % 64 * 2 ^ 58 + l / 64 ⌝ }
+{
+    (l >> 6) | (h << 58)
+}
+
+// The bound of its last four bases tells that a k-mer is a key: below it, it begins before its reverse complement does. One word of
+// each is compared. A bound ends with K - 4 As, so that up to K = 35 its last three bases don't matter, and from K = 36 on its low
+// word doesn't.
 fn is_told(k: usize, l: u64, h: u64, lows: &[u64], highs: &[u64]) -> bool
     requires { ⌜ (length (now lows) ≡ 256) × (length (now highs) ≡ 256) × Bounds k (now lows) (now highs) ⌝ }
     ensures { λ r. ⌜ (r ≡ true → ltb (joined l h) (4 ^ k) && isCanon k (joined l h) ≡ true) ⌝ }
 {
     let b = last_four(l);
-    if k < 36 {
-        return below(l, h, lows[b], highs[b]);
+    if 35 < k {
+        return h < highs[b];
     }
-    h < highs[b]
+    if 63 < h {
+        return false;
+    }
+    but_three(l, h) < but_three(lows[b], highs[b])
 }
 
 // The same as `follows` for K up to 32, where a key is its low word: a k-mer with a high word is too large.

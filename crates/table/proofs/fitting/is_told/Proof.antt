@@ -1,23 +1,26 @@
--- A k-mer is below its bound also where its high word is below that of the bound. Assumes nothing.
-use mathlib.Core.Path.{sym, _∙_}
+-- From K = 36 on the high words decide, else the k-mers without their last three bases. Assumes nothing.
+use mathlib.Core.Bool.{false≢true}
+use native.Mathlib.Omega.{arith}
 use borrow.Author.Needs.{needs}
-use Rattle.table.proofs.Bounded.{told-whole, told-high}
+use Rattle.table.proofs.Bounded.{told-high, told-leading}
 use Rattle.table.proofs.fitting.is_told.Statement.{statement}
 use Rattle.table.proofs.fitting.is_told.Tie as tie
 
 returns : tie.Need-returns
 returns c t =
-    let f = c .before .before .before .before .last-four in
-    let s = c .before .before .before .before .before .before .before in
-    let a = s .args in
-    told-whole (a .k) (a .lows .now) (a .highs .now) (s .pre .2) (a .l) (a .h) (f .result) (f .ensures) (sym (c .below .ensures) ∙ t)
-
-returns-2 : tie.Need-returns-2
-returns-2 c t =
     let f = c .before .before .last-four in
     let s = c .before .before .before .before .before in
     let a = s .args in
     told-high (a .k) (a .lows .now) (a .highs .now) (s .pre .2) (a .l) (a .h) (f .result) (f .ensures) (s .fits .l .fits) t
+
+returns-3 : tie.Need-returns-3
+returns-3 c t =
+    let leading = c .before .before .before in
+    let f = leading .before .before .before .last-four in
+    let s = leading .before .before .before .before .before .before in
+    let a = s .args in
+    told-leading (a .k) (a .lows .now) (a .highs .now) (s .pre .2) (a .l) (a .h) (f .result) (f .ensures)
+    (omega arith) _ _ (leading .but-three .ensures) (c .but-three2 .ensures) t
 
 pub is-told-spec : {M : Type 1} → statement M
 is-told-spec =
@@ -26,10 +29,12 @@ is-told-spec =
     (λ c κs. search needs)
     (λ c. search needs)
     (λ c. search needs)
+    returns
+    (λ c t. absurd (false≢true t))
+    (λ c κs. search needs)
+    (λ c. search needs)
+    (λ c. search needs)
     (λ c. search needs)
     (λ c. search needs)
     (λ c κs. search needs)
-    returns
-    (λ c. search needs)
-    (λ c. search needs)
-    returns-2)
+    returns-3)
