@@ -1,7 +1,7 @@
 -- An edge that was counted and leads to another k-mer was counted at that one too, by some counter: a label shows the two one after
 -- the other, and counts a step between different k-mers at both. Assumes nothing.
 use mathlib.Core.Path.{_≡_, refl, sym, _∙_, subst}
-use mathlib.Core.Logic.{inl, inr, ⊎-elim}
+use mathlib.Core.Logic.{⊎-elim}
 use mathlib.Core.List.{List, [], _∷_}
 use Prim.Native.Nat.{ℕ, zero, suc, _+_, _-_, _≤_, _<_}
 use native.Mathlib.Omega.{arith}
@@ -9,9 +9,7 @@ use lib.ListN.{length, getD}
 use borrow.Author.Tests.{eq-eqb, ne-eqb, lt-ltb}
 use Rattle.lemmas.proofs.Numbers.{lt-or-ge}
 use Rattle.dna.specs.Letters.{codeOf, complement}
-use Rattle.kmer.specs.Kmer.{rc, canon, forward}
-use Rattle.kmer.proofs.Windows.{Bases}
-use Rattle.kmer.proofs.Strands.{canon-rc}
+use Rattle.kmer.specs.Kmer.{canon, forward}
 use Rattle.state.specs.declared.Side.{Side}
 use Rattle.state.specs.Counted.{Kind, opposite, slotOf, count}
 use Rattle.graph.specs.Table.{keysOf}
@@ -19,11 +17,12 @@ use Rattle.graph.specs.Sightings.{sameCanonical, window, windows, predecessor, 
 use Rattle.graph.specs.Walks.{seen, leaving, entrance}
 use Rattle.graph.proofs.Adding.{Readable}
 use Rattle.laws.specs.Grown.{Grown, times, sightedIn}
-use Rattle.laws.proofs.Sighted.{Each, each-hit, each-at, each-all, times-append, times-at}
+use Rattle.laws.proofs.Sighted.{EachSighted, each-hit, times-append, times-at}
 use Rattle.laws.proofs.Counts.{grown-counts-at}
-use Rattle.laws.proofs.Links.{Link, window-link, link-forward, link-back}
-use Rattle.laws.proofs.Sides.{seenAs, seen-is, complement-is, leaving-lt, seen-exit, seen-entrance, leads}
-use Rattle.laws.proofs.Closed.{AllReadable, grown-readable, successor-link, predecessor-is}
+use Rattle.laws.proofs.Links.{window-link}
+use Rattle.laws.proofs.Ahead.{Ahead, label-ahead}
+use Rattle.laws.proofs.Sides.{seenAs, seen-is, complement-is, leaving-lt}
+use Rattle.laws.proofs.Closed.{AllReadable, grown-readable}
 
 -- One of k-mer x's eight counters is not 0.
 pub record Noted (counts : ℕ → ℕ → ℕ) (x : ℕ) : Type 0 where
@@ -32,13 +31,9 @@ pub record Noted (counts : ℕ → ℕ → ℕ) (x : ℕ) : Type 0 where
   pub below : base < 4
   pub counted : 0 < counts x (slotOf side base)
 
--- The k-mer y is x, on either strand, or it is noted.
-abbrev Told : ℕ → (ℕ → ℕ → ℕ) → ℕ → ℕ → Type 0
-Told K counts x y = (canon K y ≡ x → ⊥) → Noted counts (canon K y)
-
--- That is so of where the edge leads that counter j of k-mer x stands for.
-abbrev Answered : ℕ → (ℕ → ℕ → ℕ) → ℕ → ℕ → Type 0
-Answered K counts x j = (s : Side) (b : ℕ) → b < 4 → j ≡ slotOf s b → Told K counts x (forward K (seenAs K x s) (leaving s b))
+-- The k-mer y is x, or it is noted.
+abbrev Told : (ℕ → ℕ → ℕ) → ℕ → ℕ → Type 0
+Told counts x y = (y ≡ x → ⊥) → Noted counts y
 
 -- ---- a label
 
@@ -81,44 +76,18 @@ module _ (K : ℕ) (label : List ℕ) where
       let b = leaving e (successor K label i) in
       noted-at i l e b (leaving-lt e (successor K label i) h) (omega (arith, times-at k (slotOf e b) sameCanonical K label i))
 
-  window-answered : Bases label → (i : ℕ) → i < windows K label → Each (Answered K sighted) (sightingsAt sameCanonical K label i)
+  label-answered : Readable K label → EachSighted (Ahead K (Told sighted)) (sightings sameCanonical K label (windows K label))
   unfolding predecessor successor
-  window-answered bases i l =
-      let w = window K label i in
-      let k = canon K w in
-      let e = entrance K w in
-      each-at (Answered K sighted) sameCanonical K label i (before i l)
-      (λ h.
-      let n = successor-link sameCanonical K label bases i h in
-      let f : forward K (seenAs K k (opposite e)) (successor K label i) ≡ window K label (suc i) =
-      rw (seen-exit K w (n .1 .left)) (link-forward (n .1)) in
-      leads K (Told K sighted k) k (opposite e) (successor K label i) h
-      (rw f (λ ne.
+  label-answered r = label-ahead sameCanonical K label (Told sighted) r
+      (λ b i h ne.
+      let n = window-link K label i b h in
       let p : predecessor sameCanonical K label (suc i) ≡ codeOf (getD label i 0) =
-      rw (ne-eqb k (canon K (window K label (suc i))) (λ q. ne (sym q))) in
-      noted-before (suc i) (omega (arith, n .0)) (omega (arith, n .1 .first)))))
-    where
-      before : (i : ℕ) → i < windows K label → predecessor sameCanonical K label i < 4 → let w = window K label i in
-          Answered K sighted (canon K w) (slotOf (entrance K w) (leaving (entrance K w) (complement (predecessor sameCanonical K label i))))
-      before zero l h = absurd (omega arith)
-      before (suc i) l h =
-          let w = window K label (suc i) in
-          let k = canon K w in
-          let e = entrance K w in
-          let p = codeOf (getD label i 0) in
-          let q : predecessor sameCanonical K label (suc i) ≡ p = predecessor-is sameCanonical K label bases i h in
-          let short : i + K < length label = omega arith in
-          let n : Link K (window K label i) (codeOf (getD label (i + K) 0)) p w = window-link K label i bases short in
-          let c : complement p ≡ 3 - p = complement-is p (n .first) in
-          let f : forward K (seenAs K k e) (3 - p) ≡ rc K (window K label i) =
-          rw (seen-entrance K w (n .right)) (link-back n) in
-          let s : successor K label i ≡ codeOf (getD label (i + K) 0) = rw (lt-ltb (i + K) (length label) short) in
-          rw (q, c) (leads K (Told K sighted k) k e (3 - p) (omega (arith, n .first))
-          (rw (f, canon-rc K (window K label i) (n .left)) (λ _. noted-after i (omega arith) (omega (arith, n .next)))))
-
-  label-answered : Readable K label → Each (Answered K sighted) (sightings sameCanonical K label (windows K label))
-  label-answered (inl s) = each-all (Answered K sighted) sameCanonical K label (windows K label) (λ i l. absurd (omega arith))
-  label-answered (inr b) = each-all (Answered K sighted) sameCanonical K label (windows K label) (window-answered b)
+      rw (ne-eqb (canon K (window K label i)) (canon K (window K label (suc i))) (λ q. ne (sym q))) in
+      noted-before (suc i) (omega arith) (omega (arith, n .first)))
+      (λ b i h _.
+      let n = window-link K label i b h in
+      let s : successor K label i ≡ codeOf (getD label (i + K) 0) = rw (lt-ltb (i + K) (length label) h) in
+      noted-after i (omega arith) (omega (arith, n .next)))
 
 -- ---- all labels
 
@@ -126,7 +95,7 @@ noted-more : {f h : ℕ → ℕ → ℕ} {x : ℕ} → ((j : ℕ) → f x j ≤ 
 noted-more le m = record { side = m .side; base = m .base; below = m .below; counted = omega (arith, m .counted, le (slotOf (m .side) (m .base))) }
 
 labels-answered : (K : ℕ) (ls : List (List ℕ)) → AllReadable K ls → (x j : ℕ) → 0 < sightedIn sameCanonical K ls x j
-    → Answered K (sightedIn sameCanonical K ls) x j
+    → Ahead K (Told (sightedIn sameCanonical K ls)) x j
 unfolding sightedIn
 labels-answered K [] r x j h s b lt e ne = absurd (omega arith)
 labels-answered K (l ∷ ls) r x j h s b lt e ne = ⊎-elim
@@ -134,7 +103,7 @@ labels-answered K (l ∷ ls) r x j h s b lt e ne = ⊎-elim
     (λ z.
     let t : 0 < times (sightings sameCanonical K l (windows K l)) x j = omega arith in
     noted-more (λ i. omega arith)
-    (each-hit (Answered K (sighted K l)) (sightings sameCanonical K l (windows K l)) (label-answered K l (r .0)) x j t s b lt e ne))
+    (each-hit (Ahead K (Told (sighted K l))) (sightings sameCanonical K l (windows K l)) (label-answered K l (r .0)) x j t s b lt e ne))
     (lt-or-ge 0 (sightedIn sameCanonical K ls x j))
 
 -- ---- a grown table

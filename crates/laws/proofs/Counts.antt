@@ -1,4 +1,4 @@
--- Each counter of a grown table is the number of its sightings, up to its top. Assumes nothing.
+-- EachSighted counter of a grown table is the number of its sightings, up to its top. Assumes nothing.
 use mathlib.Core.Path.{_≡_, refl, sym, ap, _∙_, subst}
 use mathlib.Core.Bool.{Bool, true, false, cond, _&&_, _||_}
 use mathlib.Core.Logic.{⊎-elim}
@@ -25,7 +25,7 @@ use Rattle.graph.proofs.Adding.{Readable, windows-sound, store-or, windows-ther
 use Rattle.graph.proofs.Accepted.{fit-sound, fit-length, accepted}
 use Rattle.graph.proofs.Keys.{keys-length}
 use Rattle.laws.proofs.Keys.{grown-fit}
-use Rattle.laws.proofs.Sighted.{Each, each-at, each-all}
+use Rattle.laws.proofs.Sighted.{EachSighted, each-at, each-all}
 use Rattle.laws.specs.Grown.{Grown, fresh, accepts, times, sightedIn}
 
 -- ---- a table whose counters are what h says
@@ -104,7 +104,7 @@ module _ (κ : Kind) (K : ℕ) where
       store-tells κ K (storeWindows K label t m) h (windows-sound K label r t sound m (omega arith))
       (windows-tell label r t h sound v m (omega arith)) (canon K (window K label m))
 
-  all-tell : (ss : List Sighting) (t : Table) (h : ℕ → ℕ → ℕ) → Sound K t → Tells κ t h → Each (λ x j. stored (t .keys) x ≡ true) ss
+  all-tell : (ss : List Sighting) (t : Table) (h : ℕ → ℕ → ℕ) → Sound K t → Tells κ t h → EachSighted (λ x j. stored (t .keys) x ≡ true) ss
       → Tells κ (sightAll κ t ss) (λ x j. h x j + times ss x j)
   unfolding sightAll times
   all-tell [] t h sound v a = tells-same h (λ x j. h x j + 0) (λ x j. omega arith) v
@@ -114,7 +114,7 @@ module _ (κ : Kind) (K : ℕ) where
       tells-same (λ x j. (h x j + hit x j) + times ss x j) (λ x j. h x j + (hit x j + times ss x j)) (λ x j. omega arith)
       (all-tell ss u (λ x j. h x j + hit x j) (sight-sound κ t (s .kmer) (s .slot) K sound)
       (sight-tells κ K t h sound v (s .kmer) (s .slot) (a .0))
-      (subst (λ (ks : List ℕ). Each (λ x j. stored ks x ≡ true) ss) (sym (sight-keys κ t (s .kmer) (s .slot))) (a .1)))
+      (subst (λ (ks : List ℕ). EachSighted (λ x j. stored ks x ≡ true) ss) (sym (sight-keys κ t (s .kmer) (s .slot))) (a .1)))
 
   added-tells : (rule : Rule) (label : List ℕ) → Readable K label → (t : Table) (h : ℕ → ℕ → ℕ) → Sound K t → Tells κ t h
       → Tells κ (added κ rule K label t) (λ x j. h x j + times (sightings rule K label (windows K label)) x j)

@@ -3,6 +3,7 @@ pub mod Sides
 pub mod Sighted
 pub mod Counts
 pub mod Links
+pub mod Ahead
 pub mod Closed
 pub mod Odd
 pub mod Parts

@@ -24,17 +24,17 @@ use Rattle.laws.proofs.Sides.{complement-back}
 -- ---- what holds of each sighting
 
 -- P holds of the k-mer and the counter of each sighting.
-abbrev pub Each : (ℕ → ℕ → Type 0) → List Sighting → Type 0
-Each P [] = Unit {0}
-Each P (s ∷ ss) = P (s .kmer) (s .slot) × Each P ss
+abbrev pub EachSighted : (ℕ → ℕ → Type 0) → List Sighting → Type 0
+EachSighted P [] = Unit {0}
+EachSighted P (s ∷ ss) = P (s .kmer) (s .slot) × EachSighted P ss
 
 module _ (P : ℕ → ℕ → Type 0) where
-  each-append : (ss rs : List Sighting) → Each P ss → Each P rs → Each P (ss ++ rs)
+  each-append : (ss rs : List Sighting) → EachSighted P ss → EachSighted P rs → EachSighted P (ss ++ rs)
   each-append [] rs a b = b
   each-append (s ∷ ss) rs a b = (a .0, each-append ss rs (a .1) b)
 
   -- It holds of a counter that is sighted.
-  pub each-hit : (ss : List Sighting) → Each P ss → (x j : ℕ) → 0 < times ss x j → P x j
+  pub each-hit : (ss : List Sighting) → EachSighted P ss → (x j : ℕ) → 0 < times ss x j → P x j
   unfolding times
   each-hit [] a x j h = absurd (omega arith)
   each-hit (s ∷ ss) a x j h = go (eqb (s .kmer) x && eqb (s .slot) j) refl (each-hit ss (a .1) x j) h
@@ -45,17 +45,17 @@ module _ (P : ℕ → ℕ → Type 0) where
           rw (← eqb-true (s .kmer) x (b .0), ← eqb-true (s .slot) j (b .1)) (a .0)
       go false e f q = f (omega arith)
 
-  each-sighting : (x : ℕ) (s : Side) (b : ℕ) → (b < 4 → P x (slotOf s b)) → Each P (sighting x s b)
-  each-sighting x s b f = choose (Each P) (ltb b 4) (λ t. (f (ltb-true b 4 t), tt)) (λ t. tt)
+  each-sighting : (x : ℕ) (s : Side) (b : ℕ) → (b < 4 → P x (slotOf s b)) → EachSighted P (sighting x s b)
+  each-sighting x s b f = choose (EachSighted P) (ltb b 4) (λ t. (f (ltb-true b 4 t), tt)) (λ t. tt)
 
-  each-two : (x b c : ℕ) → (b < 4 → P x (slotOf Front b)) × (c < 4 → P x (slotOf Back c)) → Each P (sighting x Front b ++ sighting x Back c)
+  each-two : (x b c : ℕ) → (b < 4 → P x (slotOf Front b)) × (c < 4 → P x (slotOf Back c)) → EachSighted P (sighting x Front b ++ sighting x Back c)
   each-two x b c f =
       each-append (sighting x Front b) (sighting x Back c) (each-sighting x Front b (f .0)) (each-sighting x Back c (f .1))
 
   -- The two neighbours of a window, by how it is seen.
   each-seen : (t : Bool) (k p q : ℕ) → let e = cond t Front Back in
       (p < 4 → P k (slotOf e (leaving e (complement p)))) → (q < 4 → P k (slotOf (opposite e) (leaving (opposite e) q)))
-      → Each P (cond t (sighting k Front p ++ sighting k Back q) (sighting k Front (complement q) ++ sighting k Back (complement p)))
+      → EachSighted P (cond t (sighting k Front p ++ sighting k Back q) (sighting k Front (complement q) ++ sighting k Back (complement p)))
   each-seen true k p q f g = each-two k p q (λ l. rw complement-complement at (f l), g)
   each-seen false k p q f g = each-two k (complement q) (complement p) (λ l. g (complement-back q l), λ l. f (complement-back p l))
 
@@ -65,12 +65,12 @@ module _ (P : ℕ → ℕ → Type 0) where
         let p = predecessor rule K label i in
         let q = successor K label i in
         (p < 4 → P k (slotOf e (leaving e (complement p)))) → (q < 4 → P k (slotOf (opposite e) (leaving (opposite e) q)))
-        → Each P (sightingsAt rule K label i)
+        → EachSighted P (sightingsAt rule K label i)
     unfolding sightingsAt
     each-at i f g =
         each-seen (isCanon K (window K label i)) (canon K (window K label i)) (predecessor rule K label i) (successor K label i) f g
 
-    pub each-all : (m : ℕ) → ((i : ℕ) → i < m → Each P (sightingsAt rule K label i)) → Each P (sightings rule K label m)
+    pub each-all : (m : ℕ) → ((i : ℕ) → i < m → EachSighted P (sightingsAt rule K label i)) → EachSighted P (sightings rule K label m)
     unfolding sightings
     each-all zero f = tt
     each-all (suc m) f =
