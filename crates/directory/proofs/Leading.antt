@@ -1,16 +1,16 @@
 -- The b bases of a number in two words that have s bits behind them, by the words. Assumes nothing.
-use mathlib.Core.Path.{_≡_, sym, ap, ap₂, _∙_}
+use mathlib.Core.Path.{_≡_, sym, ap, _∙_}
 use Prim.Native.Nat.{ℕ, _+_, _-_, _*_, _/_, _%_, _^_, _<_, _≤_}
-use native.Mathlib.Nat.{add-mul, mul-assoc, mul-comm, mod-lt, div-one, div-eq-of-lt, zero-mod, lt-of-lt-of-le}
+use native.Mathlib.Nat.{mod-lt, div-one, div-eq-of-lt, zero-mod, lt-of-lt-of-le}
 use native.Mathlib.Omega.{arith}
 use lib.Arith.{digits-lt}
 use lib.Bits.{bitAnd, bitOr, and-mask}
-use lib.Pow.{pow-pos, pow-add, pow-mono, split, shr-shr}
-use Rattle.lemmas.proofs.Numbers.{mod-is, div-is, mod-mod}
+use lib.Pow.{pow-mono, shr-shr}
+use Rattle.lemmas.proofs.Numbers.{mod-is, mod-mod}
 use Rattle.kmer.specs.Kmer.{joined}
 use Rattle.kmer.proofs.Wide.{four, four-pos, low-of, high-of}
 use Rattle.kmer.proofs.Moves.{one-shl}
-use Rattle.kmer.proofs.Halves.{low-word, low-room}
+use Rattle.kmer.proofs.Halves.{moved, low-word, low-room}
 use Rattle.directory.specs.Directory.{slotOf}
 
 pub last-is : (w b : ℕ) → b ≤ 7 → bitAnd w ((1 * 2 ^ (2 * b)) % 2 ^ 64 - 1) ≡ w % 4 ^ b
@@ -20,15 +20,6 @@ last-is w b h = rw (one-shl (2 * b) (omega arith), four b) (and-mask w (2 * b))
 cut : (n m b : ℕ) → b ≤ 7 → n % 2 ^ 64 ≡ m → m % 4 ^ b ≡ n % 4 ^ b
 cut n m b h e = rw (four b) (ap (λ (x : ℕ). x % 2 ^ (2 * b)) (sym e) ∙ mod-mod n (2 * b) 64 (omega arith))
 
-split-words : (a₁ a₀ c₁ c₀ P R W : ℕ) → R * P ≡ W → (c₁ * P + c₀) + W * (a₁ * P + a₀) ≡ (a₁ * W + (a₀ * R + c₁)) * P + c₀
-split-words a₁ a₀ c₁ c₀ P R W e =
-    let l : W * (a₁ * P + a₀) ≡ a₁ * P * W + a₀ * W = mul-comm W (a₁ * P + a₀) ∙ add-mul (a₁ * P) a₀ W in
-    let m : (a₁ * W + (a₀ * R + c₁)) * P ≡ a₁ * W * P + (a₀ * R + c₁) * P = add-mul (a₁ * W) (a₀ * R + c₁) P in
-    let n : (a₀ * R + c₁) * P ≡ a₀ * R * P + c₁ * P = add-mul (a₀ * R) c₁ P in
-    let o : a₀ * R * P ≡ a₀ * W = mul-assoc a₀ R P ∙ ap (λ (x : ℕ). a₀ * x) e in
-    let p : a₁ * P * W ≡ a₁ * W * P = mul-assoc a₁ P W ∙ ap (λ (x : ℕ). a₁ * x) (mul-comm P W) ∙ sym (mul-assoc a₁ W P) in
-    omega arith
-
 module _ (b lo hi : ℕ) (h : b ≤ 7) (l : lo < 2 ^ 64) where
   pub before-none : lo % 4 ^ b ≡ joined lo hi / 2 ^ 0 % 4 ^ b
   before-none = cut (joined lo hi) lo b h (low-of lo hi l) ∙ ap (λ (n : ℕ). n % 4 ^ b) (sym (div-one (joined lo hi)))
@@ -37,16 +28,10 @@ module _ (b lo hi : ℕ) (h : b ≤ 7) (l : lo < 2 ^ 64) where
     pub before-some : s < 64 → bitOr (lo / 2 ^ s) ((hi * 2 ^ (64 - s)) % 2 ^ 64) % 4 ^ b ≡ joined lo hi / 2 ^ s % 4 ^ b
     before-some hs =
         let w : ℕ = hi % 2 ^ s * 2 ^ (64 - s) + lo / 2 ^ s in
-        let e : (64 - s) + s ≡ 64 = omega arith in
         let k : s ≤ 64 = omega arith in
-        let width : 2 ^ (64 - s) * 2 ^ s ≡ 2 ^ 64 = sym (pow-add 2 (64 - s) s) ∙ ap (λ (n : ℕ). 2 ^ n) e in
-        let moved : joined lo hi / 2 ^ s ≡ hi / 2 ^ s * 2 ^ 64 + w =
-        div-is (joined lo hi) (2 ^ s) (hi / 2 ^ s * 2 ^ 64 + w) (lo % 2 ^ s)
-        (sym (ap₂ (λ (x y : ℕ). x + 2 ^ 64 * y) (split lo s) (split hi s))
-        ∙ split-words (hi / 2 ^ s) (hi % 2 ^ s) (lo / 2 ^ s) (lo % 2 ^ s) (2 ^ s) (2 ^ (64 - s)) (2 ^ 64) width)
-        (mod-lt lo (pow-pos s)) in
+        let e : joined lo hi / 2 ^ s ≡ hi / 2 ^ s * 2 ^ 64 + w = moved s hi lo k l ∙ omega arith in
         ap (λ (n : ℕ). n % 4 ^ b) (low-word s hi lo k l)
-        ∙ cut (joined lo hi / 2 ^ s) w b h (mod-is (joined lo hi / 2 ^ s) (2 ^ 64) (hi / 2 ^ s) w moved (low-room s hi lo k l))
+        ∙ cut (joined lo hi / 2 ^ s) w b h (mod-is (joined lo hi / 2 ^ s) (2 ^ 64) (hi / 2 ^ s) w e (low-room s hi lo k l))
 
     pub before-word : 64 ≤ s → hi / 2 ^ (s - 64) % 4 ^ b ≡ joined lo hi / 2 ^ s % 4 ^ b
     before-word hs =

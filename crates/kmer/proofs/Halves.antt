@@ -43,10 +43,11 @@ module _ (s hi lo : ℕ) (hs : s ≤ 64) (hl : lo < 2 ^ 64) where
   width = sym (pow-add 2 (64 - s) s) ∙ ap (λ (n : ℕ). 2 ^ n) whole
 
   -- The high word's s low bits come in above what is left of the low word.
-  moved : (hi * 2 ^ 64 + lo) / 2 ^ s ≡ (hi % 2 ^ s * 2 ^ (64 - s) + lo / 2 ^ s) + hi / 2 ^ s * 2 ^ 64
+  pub moved : joined lo hi / 2 ^ s ≡ (hi % 2 ^ s * 2 ^ (64 - s) + lo / 2 ^ s) + hi / 2 ^ s * 2 ^ 64
   moved =
-      div-is (hi * 2 ^ 64 + lo) (2 ^ s) ((hi % 2 ^ s * 2 ^ (64 - s) + lo / 2 ^ s) + hi / 2 ^ s * 2 ^ 64) (lo % 2 ^ s)
-      (sym (ap₂ (λ (x y : ℕ). x * 2 ^ 64 + y) (split hi s) (split lo s))
+      let e : joined lo hi ≡ hi * 2 ^ 64 + lo = omega arith in
+      div-is (joined lo hi) (2 ^ s) ((hi % 2 ^ s * 2 ^ (64 - s) + lo / 2 ^ s) + hi / 2 ^ s * 2 ^ 64) (lo % 2 ^ s)
+      (e ∙ sym (ap₂ (λ (x y : ℕ). x * 2 ^ 64 + y) (split hi s) (split lo s))
       ∙ parts (hi / 2 ^ s) (hi % 2 ^ s) (lo / 2 ^ s) (lo % 2 ^ s) (2 ^ s) (2 ^ (64 - s)) (2 ^ 64) width)
       (mod-lt lo (pow-pos s))
 
@@ -82,9 +83,9 @@ halves-two k lo hi h l hl =
     let e : k + (64 - k) ≡ 64 = omega arith in
     let f : 2 * (64 - k) ≡ 128 - 2 * k = omega arith in
     let q : joined lo hi / 4 ^ 32 ≡ hi = high-of lo hi hl in
-    let w : rc 64 (joined lo hi) ≡ rc 32 lo * 2 ^ 64 + rc 32 hi =
-    rc-cat 32 32 (joined lo hi) ∙ ap₂ (λ (a b : ℕ). a * 2 ^ 64 + rc 32 b) (rc-low 32 lo hi) q in
-    let r : rc k (joined lo hi) ≡ (rc 32 lo * 2 ^ 64 + rc 32 hi) / 2 ^ s =
+    let w : rc 64 (joined lo hi) ≡ joined (rc 32 hi) (rc 32 lo) =
+    rc-cat 32 32 (joined lo hi) ∙ ap₂ (λ (a b : ℕ). a * 2 ^ 64 + rc 32 b) (rc-low 32 lo hi) q ∙ omega arith in
+    let r : rc k (joined lo hi) ≡ joined (rc 32 hi) (rc 32 lo) / 2 ^ s =
     sym (rc-short k (64 - k) (joined lo hi)) ∙ ap₂ (λ (a b : ℕ). rc a (joined lo hi) / b) e (four (64 - k) ∙ ap (λ (n : ℕ). 2 ^ n) f)
     ∙ ap (λ (a : ℕ). a / 2 ^ s) w in
     two-words _ _ (rc 32 lo / 2 ^ s)
