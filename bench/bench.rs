@@ -1,11 +1,13 @@
 // Times this library and the Rust original side by side, in one process, on the same labels, and prints the ratio of their times: below 1 this library
-// is faster. Buffers are made before the clock starts. The two sides' runs take turns; each time is the least of them. The lists are compared byte by byte.
+// is faster. Buffers are made before the clock starts. Each time is the least of several runs. The lists are compared byte by byte.
 use crate::cases::{turned, Dice};
 use crate::library::*;
 use crate::uncolored::Graph;
 use std::time::Instant;
 
-const RUNS: usize = 9;
+// All cases are run in several rounds, so that a host that is slow for a while is not slow for a case, and in a round several times, the two sides in turn.
+const ROUNDS: usize = 5;
+const TURNS: usize = 4;
 
 struct Case {
     name: &'static str,
@@ -102,13 +104,7 @@ fn rust<const K: usize>(c: &Case) -> Timed {
     (added.as_nanos() as f64, contracted.as_nanos() as f64, fasta)
 }
 
-// Where this library adds a case once, the original has as many runs as it has contractions, and each part's least counts.
-fn rusts(c: &Case, runs: usize) -> Timed {
-    let k = c.k;
-    (1..runs).fold(with_k!(k, rust(c)), |best, _| lesser(best, with_k!(k, rust(c))))
-}
-
-// The table is contracted several times, since a case of many short labels is added once.
+// The table is contracted several times where a case of many short labels is added seldom.
 fn ours(c: &Case, contractions: usize) -> Timed {
     let (mut keys, mut counts, mut figures) = (vec![0u64; 2 * c.n], vec![0u32; c.n], [0u64; 2]);
     let (mut labels, mut out) = (vec![0u8; c.n * c.k], vec![0u8; c.n * (c.k + 4)]);
@@ -151,32 +147,57 @@ fn lesser(a: Timed, b: Timed) -> Timed {
     (a.0.min(b.0), a.1.min(b.1), b.2)
 }
 
-// The least times of both sides. Their runs take turns, so that a host that slows down slows both.
-fn in_turns(turns: usize, mut theirs: impl FnMut() -> Timed, mut mine: impl FnMut() -> Timed) -> (Timed, Timed) {
-    let mut best = (theirs(), mine());
-    for _ in 1..turns {
-        best = (lesser(best.0, theirs()), lesser(best.1, mine()));
+// A case and the least times of both sides so far.
+struct Row {
+    case: Case,
+    least: Option<(Timed, Timed)>,
+}
+
+impl Row {
+    // A label of two windows or one takes as long as the test of the table.
+    fn is_dear(&self) -> bool {
+        self.case.labels[0].len() == self.case.k + 1 && self.case.n > 20000
     }
-    best
+
+    // One run of each side; a dear case is added once here, and all else is done several times.
+    fn run(&mut self) {
+        let (k, c) = (self.case.k, &self.case);
+        let times = if self.is_dear() { TURNS } else { 1 };
+        let theirs = (1..times).fold(with_k!(k, rust(c)), |least, _| lesser(least, with_k!(k, rust(c))));
+        let mine = ours(c, times);
+        assert!(mine.2 == theirs.2, "the lists differ: K {k}, {}, {}", c.n, c.name);
+        self.least = Some(match self.least.take() {
+            None => (theirs, mine),
+            Some(least) => (lesser(least.0, theirs), lesser(least.1, mine)),
+        });
+    }
+
+    fn print(&self) {
+        let Some((theirs, mine)) = &self.least else { return };
+        let c = &self.case;
+        let windows: usize = c.labels.iter().map(|l| l.len() + 1 - c.k).sum();
+        println!(
+            "| {} | {} | {} | {:.2} | {:.2} | {:.2} | {:.0}, {:.0} |",
+            c.k, c.n, c.name, mine.0 / theirs.0, mine.1 / theirs.1, (mine.0 + mine.1) / (theirs.0 + theirs.1), theirs.0 / windows as f64, theirs.1 / c.n as f64
+        );
+    }
 }
 
 pub fn main() {
     let most: usize = std::env::args().nth(1).and_then(|s| s.parse().ok()).unwrap_or(65536);
-    println!("| K | vertices | labels | adding | contraction | both | Rust: ns a window, ns a vertex |");
-    println!("|---|---|---|---|---|---|---|");
-    for n in [1024, 16384, 65536] {
-        for k in [15, 31, 33, 63] {
-            for c in cases(k, n).iter().filter(|_| n <= most) {
-                let short = c.labels[0].len() == k + 1;
-                let (turns, contractions) = if short && n > 10000 { (1, RUNS) } else { (RUNS, 1) };
-                let (theirs, mine) = in_turns(turns, || rusts(c, contractions), || ours(c, contractions));
-                assert!(mine.2 == theirs.2, "the lists differ: K {k}, {n}, {}", c.name);
-                let windows: usize = c.labels.iter().map(|l| l.len() + 1 - k).sum();
-                println!(
-                    "| {k} | {n} | {} | {:.2} | {:.2} | {:.2} | {:.0}, {:.0} |",
-                    c.name, mine.0 / theirs.0, mine.1 / theirs.1, (mine.0 + mine.1) / (theirs.0 + theirs.1), theirs.0 / windows as f64, theirs.1 / n as f64
-                );
+    let sizes = [1024, 16384, 65536].into_iter().filter(|n| *n <= most);
+    let all = sizes.flat_map(|n| [15, 31, 33, 63].into_iter().flat_map(move |k| cases(k, n)));
+    let mut rows: Vec<Row> = all.map(|case| Row { case, least: None }).collect();
+    for round in 0..ROUNDS {
+        for row in rows.iter_mut().filter(|row| round == 0 || !row.is_dear()) {
+            for _ in 0..if row.is_dear() { 1 } else { TURNS } {
+                row.run();
             }
         }
+    }
+    println!("| K | vertices | labels | adding | contraction | both | Rust: ns a window, ns a vertex |");
+    println!("|---|---|---|---|---|---|---|");
+    for row in &rows {
+        row.print();
     }
 }
