@@ -1,5 +1,5 @@
 // Times this library and the Rust original side by side, in one process, on the same labels, and prints the ratio of their times: below 1 this library
-// is faster. Buffers are made before the clock starts. Each time is the least of several runs. The lists are compared byte by byte.
+// is faster. Lent buffers are made and filled with ones before the clock starts. Each time is the least of several runs. The lists are compared byte by byte.
 use crate::cases::{turned, Dice};
 use crate::library::*;
 use crate::uncolored::Graph;
@@ -104,12 +104,15 @@ fn rust<const K: usize>(c: &Case) -> Timed {
     (added.as_nanos() as f64, contracted.as_nanos() as f64, fasta)
 }
 
-// The table is contracted several times where a case of many short labels is added seldom.
-fn ours(c: &Case, contractions: usize) -> Timed {
-    let (mut keys, mut counts, mut figures) = (vec![0u64; 2 * c.n], vec![0u32; c.n], [0u64; 2]);
-    let (mut labels, mut out) = (vec![0u8; c.n * c.k], vec![0u8; c.n * (c.k + 4)]);
-    let (mut starts, mut lengths, mut marks) = (vec![0u32; c.n], vec![0u32; c.n], vec![0u8; c.n]);
-    let mut n = 0;
+struct Table {
+    keys: Vec<u64>,
+    counts: Vec<u32>,
+    n: usize,
+}
+
+// This library's table of a case, and the nanoseconds of adding.
+fn grown(c: &Case) -> (Table, f64) {
+    let (mut keys, mut counts, mut n, mut figures) = (vec![1u64; 2 * c.n], vec![1u32; c.n], 0, [0u64; 2]);
     let begin = Instant::now();
     for label in &c.labels {
         let r = unsafe {
@@ -119,18 +122,22 @@ fn ours(c: &Case, contractions: usize) -> Timed {
         n = figures[1] as usize;
     }
     let added = begin.elapsed();
-    let mut contracted = f64::MAX;
-    for _ in 0..contractions {
-        let begin = Instant::now();
-        let r = unsafe {
-            lash_contract(
-                c.k, c.cutoff, n, keys.as_ptr(), keys.len(), counts.as_ptr(), counts.len(), labels.as_mut_ptr(), labels.len(), starts.as_mut_ptr(),
-                starts.len(), lengths.as_mut_ptr(), lengths.len(), marks.as_mut_ptr(), marks.len(), figures.as_mut_ptr(), 2,
-            )
-        };
-        contracted = contracted.min(begin.elapsed().as_nanos() as f64);
-        assert_eq!(r, 0);
-    }
+    (Table { keys, counts, n }, added.as_nanos() as f64)
+}
+
+// Nanoseconds of its contraction, and the FASTA.
+fn contracted(c: &Case, t: &Table) -> (f64, Vec<u8>) {
+    let (mut labels, mut out) = (vec![1u8; c.n * c.k], vec![1u8; c.n * (c.k + 4)]);
+    let (mut starts, mut lengths, mut marks, mut figures) = (vec![1u32; c.n], vec![1u32; c.n], vec![1u8; c.n], [0u64; 2]);
+    let begin = Instant::now();
+    let r = unsafe {
+        lash_contract(
+            c.k, c.cutoff, t.n, t.keys.as_ptr(), t.keys.len(), t.counts.as_ptr(), t.counts.len(), labels.as_mut_ptr(), labels.len(),
+            starts.as_mut_ptr(), starts.len(), lengths.as_mut_ptr(), lengths.len(), marks.as_mut_ptr(), marks.len(), figures.as_mut_ptr(), 2,
+        )
+    };
+    let took = begin.elapsed();
+    assert_eq!(r, 0);
     let count = figures[0] as usize;
     let r = unsafe {
         lash_write_fasta(
@@ -140,32 +147,38 @@ fn ours(c: &Case, contractions: usize) -> Timed {
     };
     assert_eq!(r, 0);
     out.truncate(figures[0] as usize);
-    (added.as_nanos() as f64, contracted, out)
+    (took.as_nanos() as f64, out)
 }
 
 fn lesser(a: Timed, b: Timed) -> Timed {
     (a.0.min(b.0), a.1.min(b.1), b.2)
 }
 
-// A case and the least times of both sides so far.
+// A case, its table once there is one, and the least times of both sides so far.
 struct Row {
     case: Case,
+    table: Option<(Table, f64)>,
     least: Option<(Timed, Timed)>,
 }
 
 impl Row {
-    // A label of two windows or one takes as long as the test of the table.
+    // Many labels, of which each takes as long as the test of a large table: these are added once.
     fn is_dear(&self) -> bool {
         self.case.labels[0].len() == self.case.k + 1 && self.case.n > 20000
     }
 
-    // One run of each side; a dear case is added once here, and all else is done several times.
+    // One run of each side.
     fn run(&mut self) {
         let (k, c) = (self.case.k, &self.case);
-        let times = if self.is_dear() { TURNS } else { 1 };
-        let theirs = (1..times).fold(with_k!(k, rust(c)), |least, _| lesser(least, with_k!(k, rust(c))));
-        let mine = ours(c, times);
-        assert!(mine.2 == theirs.2, "the lists differ: K {k}, {}, {}", c.n, c.name);
+        let theirs = with_k!(k, rust(c));
+        let (table, added) = match self.table.take() {
+            Some(grown) if self.is_dear() => grown,
+            _ => grown(c),
+        };
+        let (took, fasta) = contracted(c, &table);
+        assert!(fasta == theirs.2, "the lists differ: K {k}, {}, {}", c.n, c.name);
+        let mine = (added, took, fasta);
+        self.table = Some((table, added));
         self.least = Some(match self.least.take() {
             None => (theirs, mine),
             Some(least) => (lesser(least.0, theirs), lesser(least.1, mine)),
@@ -187,10 +200,10 @@ pub fn main() {
     let most: usize = std::env::args().nth(1).and_then(|s| s.parse().ok()).unwrap_or(65536);
     let sizes = [1024, 16384, 65536].into_iter().filter(|n| *n <= most);
     let all = sizes.flat_map(|n| [15, 31, 33, 63].into_iter().flat_map(move |k| cases(k, n)));
-    let mut rows: Vec<Row> = all.map(|case| Row { case, least: None }).collect();
-    for round in 0..ROUNDS {
-        for row in rows.iter_mut().filter(|row| round == 0 || !row.is_dear()) {
-            for _ in 0..if row.is_dear() { 1 } else { TURNS } {
+    let mut rows: Vec<Row> = all.map(|case| Row { case, table: None, least: None }).collect();
+    for _ in 0..ROUNDS {
+        for row in &mut rows {
+            for _ in 0..TURNS {
                 row.run();
             }
         }
