@@ -1,12 +1,12 @@
 -- The bases before and after a window, as they are read from its label. Assumes nothing.
 use mathlib.Core.Path.{_≡_, refl, sym, _∙_}
-use mathlib.Core.Bool.{Bool, true, false, cond, not}
+use mathlib.Core.Bool.{Bool, true, false, cond}
 use mathlib.Core.List.{List}
 use Prim.Native.Nat.{ℕ, zero, suc, _+_, _-_, _*_, _<_, _≤_}
 use native.Mathlib.Omega.{arith}
-use lib.Dec.{ltb, eqb}
+use lib.Dec.{eqb}
 use lib.ListN.{length, getD}
-use borrow.Author.Tests.{ltb-true, ltb-false, lt-ltb, le-ltb, eq-eqb, ne-eqb}
+use borrow.Author.Tests.{lt-ltb, le-ltb}
 use Rattle.dna.specs.Letters.{codeOf, complement, validBits}
 use Rattle.dna.proofs.Letters.{valid-code}
 use Rattle.kmer.specs.Kmer.{canon, isCanon}
@@ -15,17 +15,6 @@ use Rattle.graph.specs.Sightings.{sameCanonical, window, predecessor, successor
 use Rattle.adding.specs.Batch.{codeAt}
 
 -- Two numbers of which neither is the smaller one are the same.
-module _ (x y : ℕ) {s : Bool} (es : s ≡ ltb x y) where
-  pub less-differs : s ≡ true → false ≡ eqb x y
-  less-differs e = sym (ne-eqb x y (λ z. omega (arith, ltb-true x y (sym es ∙ e))))
-
-  pub same-numbers : {t : Bool} → s ≡ false → t ≡ ltb y x → not t ≡ eqb x y
-  same-numbers e et = rw et (go (ltb y x) refl (ltb-false x y (sym es ∙ e)))
-    where
-      go : (t : Bool) → ltb y x ≡ t → y ≤ x → not t ≡ eqb x y
-      go true q l = sym (ne-eqb x y (λ z. omega (arith, ltb-true y x q)))
-      go false q l = sym (eq-eqb x y (omega (arith, ltb-false y x q)))
-
 module _ (K : ℕ) (label : List ℕ) where
   pub first-none : (o : ℕ) → o ≡ 0 → 5 ≡ predecessor sameCanonical K label o
   unfolding predecessor

@@ -2,7 +2,6 @@
 ghost use mathlib.Core.Path.{_≡_};
 ghost use mathlib.Core.Bool.{cond};
 ghost use Prim.Native.Nat.{_+_, _≤_};
-ghost use lib.Dec.{eqb};
 ghost use lib.ListN.{length};
 ghost use Rattle.dna.specs.Letters.{complement};
 ghost use Rattle.kmer.specs.Says.{valueOf};
@@ -26,15 +25,6 @@ pub(crate) fn see(k: usize, label: &[u8], o: usize) -> Seen
     }
 }
 
-pub(crate) fn is_same(x: Kmer, y: Kmer) -> bool
-    ensures { λ r. ⌜ r ≡ eqb (valueOf x) (valueOf y) ⌝ }
-{
-    if x.is_less(y) {
-        return false;
-    }
-    !y.is_less(x)
-}
-
 // The base before window o, whose canonical k-mer is here; E where there is none, or where the window before has the same.
 fn before_of(k: usize, label: &[u8], o: usize, previous: Kmer, here: Kmer) -> u8
     requires { ⌜ Given k (now label) × (o + k ≤ length (now label)) × Follows k (now label) o (valueOf previous) (valueOf here) ⌝ }
@@ -43,7 +33,7 @@ fn before_of(k: usize, label: &[u8], o: usize, previous: Kmer, here: Kmer) -> u8
     if o == 0 {
         return 5;
     }
-    if is_same(previous, here) {
+    if previous.is_same(here) {
         return 5;
     }
     dna::valid_ascii_base_bits(label[o - 1])

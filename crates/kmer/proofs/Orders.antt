@@ -1,12 +1,13 @@
--- The order of two words, and the canonical form by it. Assumes nothing.
-use mathlib.Core.Path.{_≡_, sym}
+-- The order of two words, when they are the same, and the canonical form by the order. Assumes nothing.
+use mathlib.Core.Path.{_≡_, sym, _∙_}
 use mathlib.Core.Bool.{true, false, not}
 use mathlib.Core.Logic.{⊎-elim}
 use Prim.Native.Nat.{ℕ, _^_, _<_}
+use native.Mathlib.Decide.{ℕ-discrete}
 use native.Mathlib.Omega.{arith}
 use lib.Arith.{lt-of-le-ne}
-use lib.Dec.{ltb}
-use borrow.Author.Tests.{lt-ltb, le-ltb, le-leb, lt-leb, ltb-true, ltb-false}
+use lib.Dec.{ltb, eqb}
+use borrow.Author.Tests.{lt-ltb, le-ltb, le-leb, lt-leb, ltb-true, ltb-false, eq-eqb, ne-eqb}
 use Rattle.lemmas.proofs.Numbers.{lt-or-ge, same-test}
 use Rattle.kmer.specs.Kmer.{joined, rc, canon, isCanon}
 
@@ -17,6 +18,16 @@ module _ (a₀ a₁ b₀ b₁ : ℕ) where
   pub less-high : a₀ < 2 ^ 64 → b₀ < 2 ^ 64 → (a₁ ≡ b₁ → ⊥) → ltb a₁ b₁ ≡ ltb (joined a₀ a₁) (joined b₀ b₁)
   less-high ha hb ne =
       same-test a₁ b₁ (joined a₀ a₁) (joined b₀ b₁) (λ l. omega arith) (λ l. omega (arith, lt-of-le-ne l (λ e. ne (sym e))))
+
+  pub same-high : a₀ ≡ b₀ → eqb a₁ b₁ ≡ eqb (joined a₀ a₁) (joined b₀ b₁)
+  same-high e = go (ℕ-discrete a₁ b₁)
+    where
+      go : Dec (a₁ ≡ b₁) → eqb a₁ b₁ ≡ eqb (joined a₀ a₁) (joined b₀ b₁)
+      go (yes f) = eq-eqb a₁ b₁ f ∙ sym (eq-eqb (joined a₀ a₁) (joined b₀ b₁) (omega arith))
+      go (no n) = ne-eqb a₁ b₁ n ∙ sym (ne-eqb (joined a₀ a₁) (joined b₀ b₁) (λ f. n (omega arith)))
+
+  pub differ-low : a₀ < 2 ^ 64 → b₀ < 2 ^ 64 → (a₀ ≡ b₀ → ⊥) → false ≡ eqb (joined a₀ a₁) (joined b₀ b₁)
+  differ-low ha hb n = sym (ne-eqb (joined a₀ a₁) (joined b₀ b₁) (λ f. n (omega arith)))
 
 module _ (K x : ℕ) where
   pub canon-turned : ltb (rc K x) x ≡ true → rc K x ≡ canon K x

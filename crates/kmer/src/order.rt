@@ -1,6 +1,6 @@
 // The numeric order, and the canonical form.
 ghost use mathlib.Core.Path.{_≡_};
-ghost use lib.Dec.{ltb};
+ghost use lib.Dec.{ltb, eqb};
 ghost use Rattle.kmer.specs.Calls.{lessCall, canonCall, isCanonCall};
 ghost use Rattle.kmer.specs.Says.{valueOf, saysTest, Answers};
 use super::Answered;
@@ -19,6 +19,16 @@ impl Kmer {
             return self.words[0] < other.words[0];
         }
         self.words[1] < other.words[1]
+    }
+
+    // Two numbers of two words are the same, whatever K is.
+    pub fn is_same(self, other: Kmer) -> bool
+        ensures { λ r. ⌜ r ≡ eqb (valueOf self) (valueOf other) ⌝ }
+    {
+        if self.words[0] == other.words[0] {
+            return self.words[1] == other.words[1];
+        }
+        false
     }
 
     // The first of two k-mers is the smaller one.

@@ -1,12 +1,12 @@
 -- The search among the keys of a slice: its tests, the place at which it ends, and what is found there. Assumes nothing.
 use mathlib.Core.Path.{_≡_, sym, ap, _∙_}
-use mathlib.Core.Bool.{Bool, false, cond, _&&_}
+use mathlib.Core.Bool.{Bool, true, false, cond, _&&_}
 use mathlib.Core.List.{List}
 use Prim.Native.Nat.{ℕ, _/_, _≤_, _<_, min}
 use native.Mathlib.Omega.{arith}
 use lib.Dec.{ltb, eqb}
 use lib.ListN.{length, getD}
-use borrow.Author.Tests.{ltb-true, ltb-false, lt-ltb, le-ltb, eqb-true, eq-eqb, ne-eqb}
+use borrow.Author.Tests.{ltb-true, lt-ltb, le-ltb, eqb-true}
 use Rattle.lemmas.proofs.Tests.{choose, both}
 use Rattle.graph.specs.Table.{keysOf}
 use Rattle.table.specs.Search.{key, placeBetween, findBetween, placeOf, findIn}
@@ -52,11 +52,11 @@ module _ (n : ℕ) (words : List ℕ) (lo hi x l m i : ℕ) (e : m ≡ min (min 
     here : getD (keysOf n words) i 0 ≡ v
     here = key-is n words i (omega arith) (omega arith) ∙ sym k
 
-    pub find-at : ltb v x ≡ false → ltb x v ≡ false → At i ≡ findBetween (keysOf n words) lo hi x
-    find-at a b = sym (found-is ∙ rw (lt-ltb i m h, here, eq-eqb v x (omega (arith, ltb-false v x a, ltb-false x v b))))
+    pub find-at : eqb v x ≡ true → At i ≡ findBetween (keysOf n words) lo hi x
+    find-at e = sym (found-is ∙ rw (lt-ltb i m h, here, e))
 
-    pub find-gap : (v ≡ x → ⊥) → Gap i ≡ findBetween (keysOf n words) lo hi x
-    find-gap q = sym (found-is ∙ rw (lt-ltb i m h, here, ne-eqb v x q))
+    pub find-gap : eqb v x ≡ false → Gap i ≡ findBetween (keysOf n words) lo hi x
+    find-gap e = sym (found-is ∙ rw (lt-ltb i m h, here, e))
 
 -- From the first place to the last it is the search among all.
 pub find-all : (n : ℕ) (words : List ℕ) (x : ℕ) {f : Found} → f ≡ findBetween (keysOf n words) 0 n x → f ≡ findIn (keysOf n words) x

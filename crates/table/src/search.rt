@@ -45,10 +45,8 @@ pub fn find_between(n: usize, keys: &[u64], lo: usize, hi: usize, x: Kmer) -> Fo
     let i = place_of(least(lo, end), end, keys, x);
     if i < end {
         let y = key_at(keys, i);
-        if !y.is_less(x) {
-            if !x.is_less(y) {
-                return Found::At(i);
-            }
+        if y.is_same(x) {
+            return Found::At(i);
         }
     }
     Found::Gap(i)

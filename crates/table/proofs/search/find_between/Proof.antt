@@ -1,8 +1,6 @@
 -- The place that is left holds x, or another key, or is the end. Assumes nothing.
 use mathlib.Core.Path.{sym, _∙_}
-use native.Mathlib.Omega.{arith}
 use borrow.Author.Needs.{needs}
-use borrow.Author.Tests.{not-true, not-false, ltb-true}
 use Rattle.kmer.specs.Says.{valueOf}
 use Rattle.table.proofs.Searching.{find-at, find-gap, find-end}
 use Rattle.table.proofs.search.find_between.Statement.{statement}
@@ -10,34 +8,22 @@ use Rattle.table.proofs.search.find_between.Tie as tie
 
 returns : tie.Need-returns
 returns c =
-    let at = c .before .before .before .before .before .before in
-    let a = at .before .before .before .before .before .args in
-    let y = c .before .before .before .before .key-at in
-    find-at (a .n) (a .keys .now) (a .lo) (a .hi) (valueOf (a .x)) _ _ _ (search needs) (at .before .least3 .ensures) (at .place-of .ensures (a .n))
-    (search needs) (valueOf (y .result)) (y .ensures)
-    (sym (c .before .before .before .is-less .ensures) ∙ not-true _ (c .before .before .if2 .taken))
-    (sym (c .before .is-less2 .ensures) ∙ not-true _ (c .if3 .taken))
-
-returns-2 : tie.Need-returns-2
-returns-2 c =
-    let at = c .before .before .before .before .before .before in
-    let a = at .before .before .before .before .before .args in
-    let y = c .before .before .before .before .key-at in
-    let h = ltb-true (valueOf (a .x)) (valueOf (y .result)) (sym (c .before .is-less2 .ensures) ∙ not-false _ (c .if3 .left)) in
-    find-gap (a .n) (a .keys .now) (a .lo) (a .hi) (valueOf (a .x)) _ _ _ (search needs) (at .before .least3 .ensures) (at .place-of .ensures (a .n))
-    (search needs) (valueOf (y .result)) (y .ensures) (λ e. omega arith)
-
-returns-3 : tie.Need-returns-3
-returns-3 c =
     let at = c .before .before .before .before in
     let a = at .before .before .before .before .before .args in
     let y = c .before .before .key-at in
-    let h = ltb-true (valueOf (y .result)) (valueOf (a .x)) (sym (c .before .is-less .ensures) ∙ not-false _ (c .if2 .left)) in
-    find-gap (a .n) (a .keys .now) (a .lo) (a .hi) (valueOf (a .x)) _ _ _ (search needs) (at .before .least3 .ensures) (at .place-of .ensures (a .n))
-    (search needs) (valueOf (y .result)) (y .ensures) (λ e. omega arith)
+    find-at (a .n) (a .keys .now) (a .lo) (a .hi) (valueOf (a .x)) _ _ _ (search needs) (at .before .least3 .ensures) (at .place-of .ensures (a .n))
+    (search needs) (valueOf (y .result)) (y .ensures) (sym (c .before .is-same .ensures) ∙ c .if2 .taken)
 
-returns-4 : tie.Need-returns-4
-returns-4 c =
+returns-2 : tie.Need-returns-2
+returns-2 c =
+    let at = c .before .before .before .before in
+    let a = at .before .before .before .before .before .args in
+    let y = c .before .before .key-at in
+    find-gap (a .n) (a .keys .now) (a .lo) (a .hi) (valueOf (a .x)) _ _ _ (search needs) (at .before .least3 .ensures) (at .place-of .ensures (a .n))
+    (search needs) (valueOf (y .result)) (y .ensures) (sym (c .before .is-same .ensures) ∙ c .if2 .left)
+
+returns-3 : tie.Need-returns-3
+returns-3 c =
     let at = c .before in
     let a = at .before .before .before .before .before .args in
     find-end (a .n) (a .keys .now) (a .lo) (a .hi) (valueOf (a .x)) _ _ _ (search needs) (at .before .least3 .ensures) (at .place-of .ensures (a .n))
@@ -53,8 +39,6 @@ find-between-spec =
     (λ c κs. search needs)
     (λ c κs. search needs)
     (λ c κs. search needs)
-    (λ c κs. search needs)
     returns
     returns-2
-    returns-3
-    returns-4)
+    returns-3)
