@@ -4,6 +4,7 @@ pub mod Searching
 pub mod Inserting
 pub mod Ranked
 pub mod Ascending
+pub mod Compared
 pub mod Bounded
 pub mod Short
 pub mod BoundsIn

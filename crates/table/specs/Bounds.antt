@@ -2,19 +2,19 @@
 use mathlib.Core.Path.{_≡_}
 use mathlib.Core.Bool.{cond}
 use mathlib.Core.List.{List}
-use Prim.Native.Nat.{ℕ, _-_, _*_, _^_, _≤_, _<_}
+use Prim.Native.Nat.{ℕ, _-_, _*_, _^_, _<_}
 use lib.Dec.{leb}
 use lib.ListN.{getD}
-use Rattle.kmer.specs.Kmer.{joined, rc}
+use Rattle.kmer.specs.Kmer.{rc}
 
 -- The least k-mer that begins with four bases turned; 0 where K is below 5.
 abbrev pub boundOf : ℕ → ℕ → ℕ
 boundOf k b = cond (leb 5 k) (rc 4 b * 4 ^ (k - 4)) 0
 
--- Two slices hold the bounds of all last four bases: their low and their high words.
-abbrev pub Bounds : ℕ → List ℕ → List ℕ → Type 0
-Bounds k lows highs = (b : ℕ) → b < 256 → joined (getD lows b 0) (getD highs b 0) ≡ boundOf k b
+-- What a one counts in the word of a bound that is compared: the low word, the bound without its last three bases, or the high word.
+abbrev pub unitOf : ℕ → ℕ
+unitOf k = cond (leb k 32) 1 (cond (leb k 35) 64 (2 ^ 64))
 
--- A slice holds numbers that are at most the bounds, as their low words are.
-abbrev pub AtMostBounds : ℕ → List ℕ → Type 0
-AtMostBounds k lows = (b : ℕ) → b < 256 → getD lows b 0 ≤ boundOf k b
+-- A slice holds the bounds of all last four bases, each as the word that is compared.
+abbrev pub Bounds : ℕ → List ℕ → Type 0
+Bounds k bounds = (b : ℕ) → b < 256 → getD bounds b 0 * unitOf k ≡ boundOf k b

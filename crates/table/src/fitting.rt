@@ -5,9 +5,8 @@ ghost use Prim.Native.Nat.{_+_, _*_, _/_, _%_, _^_, _≤_, _<_};
 ghost use lib.Dec.{ltb};
 ghost use lib.ListN.{length};
 ghost use Rattle.kmer.specs.Kmer.{okK, joined, isCanon, rc};
-ghost use Rattle.kmer.specs.Says.{valueOf};
 ghost use Rattle.graph.specs.Table.{keysOf, fitFrom};
-ghost use Rattle.table.specs.Bounds.{boundOf, Bounds, AtMostBounds};
+ghost use Rattle.table.specs.Bounds.{boundOf, unitOf, Bounds};
 ghost use Rattle.table.specs.Calls.{fitCall, fitAnswer};
 use super::FitAnswer;
 use super::capacity;
@@ -22,35 +21,33 @@ fn turned(byte: u8) -> u8
     !((pairs << 4) | (pairs >> 4))
 }
 
-// Four bases turned and As behind them, as a k-mer; 0 where K is below 5.
-fn bound(k: usize, byte: u8) -> Kmer
+// The word of a bound that is compared, with four bases turned at their place in it: up to K = 32 the low word, up to K = 35 all but
+// the last three bases, else the high word. A bound ends with K - 4 As, so that nothing of it is left out. 0 where K is below 5.
+fn bound(k: usize, byte: u8) -> u64
     requires { ⌜ okK k ≡ true ⌝ }
-    ensures { λ r. ⌜ valueOf r ≡ boundOf k byte ⌝ }
+    ensures { λ r. ⌜ r * unitOf k ≡ boundOf k byte ⌝ }
 {
     if k < 5 {
-        return Kmer::zero();
+        return 0;
     }
     let first = turned(byte) as u64;
-    if k < 36 {
-        return Kmer {
-            words: [first << (2 * k - 8), first >> (72 - 2 * k)],
-        };
+    if k <= 32 {
+        return first << (2 * k - 8);
     }
-    Kmer {
-        words: [0, first << (2 * k - 72)],
+    if k <= 35 {
+        return first << (2 * k - 14);
     }
+    first << (2 * k - 72)
 }
 
-// The bounds of all last four bases, by their low and their high words.
-fn make_bounds(k: usize, lows: &mut [u64], highs: &mut [u64])
-    requires { ⌜ (okK k ≡ true) × (length (now lows) ≡ 256) × (length (now highs) ≡ 256) ⌝ }
-    ensures { λ _. ⌜ Bounds k (now (lows .exit)) (now (highs .exit)) ⌝ }
+// The bounds of all last four bases, each as the word that is compared.
+fn make_bounds(k: usize, bounds: &mut [u64])
+    requires { ⌜ (okK k ≡ true) × (length (now bounds) ≡ 256) ⌝ }
+    ensures { λ _. ⌜ Bounds k (now (bounds .exit)) ⌝ }
 {
     let mut b = 0;
     while b < 256 {
-        let least = bound(k, b as u8);
-        lows[b] = least.words[0];
-        highs[b] = least.words[1];
+        bounds[b] = bound(k, b as u8);
         b += 1;
     }
 }
@@ -91,26 +88,25 @@ fn but_three(l: u64, h: u64) -> u64
     (l >> 6) | (h << 58)
 }
 
-// The bound of its last four bases tells that a k-mer is a key: below it, it begins before its reverse complement does. One word of
-// each is compared. A bound ends with K - 4 As, so that up to K = 35 its last three bases don't matter, and from K = 36 on its low
-// word doesn't.
-fn is_told(k: usize, l: u64, h: u64, lows: &[u64], highs: &[u64]) -> bool
-    requires { ⌜ (length (now lows) ≡ 256) × (length (now highs) ≡ 256) × Bounds k (now lows) (now highs) ⌝ }
+// The bound of its last four bases tells that a k-mer of more than 32 bases is a key: below it, it begins before its reverse complement
+// does. From K = 36 on the low words don't matter, since that of a bound is 0; up to K = 35 the last three bases don't.
+fn is_told(k: usize, l: u64, h: u64, bounds: &[u64]) -> bool
+    requires { ⌜ (32 < k) × (length (now bounds) ≡ 256) × Bounds k (now bounds) ⌝ }
     ensures { λ r. ⌜ (r ≡ true → ltb (joined l h) (4 ^ k) && isCanon k (joined l h) ≡ true) ⌝ }
 {
     let b = last_four(l);
     if 35 < k {
-        return h < highs[b];
+        return h < bounds[b];
     }
     if 63 < h {
         return false;
     }
-    but_three(l, h) < but_three(lows[b], highs[b])
+    but_three(l, h) < bounds[b]
 }
 
 // The same as `follows` for K up to 32, where a key is its low word: a k-mer with a high word is too large.
-fn low_follows(k: usize, low: u64, l: u64, h: u64, lows: &[u64]) -> bool
-    requires { ⌜ (okK k ≡ true) × (k ≤ 32) × (length (now lows) ≡ 256) × AtMostBounds k (now lows) ⌝ }
+fn low_follows(k: usize, low: u64, l: u64, h: u64, bounds: &[u64]) -> bool
+    requires { ⌜ (okK k ≡ true) × (k ≤ 32) × (length (now bounds) ≡ 256) × Bounds k (now bounds) ⌝ }
     ensures { λ r. ⌜ r ≡ ltb low (joined l h) && ltb (joined l h) (4 ^ k) && isCanon k (joined l h) ⌝ }
 {
     if 0 < h {
@@ -119,24 +115,24 @@ fn low_follows(k: usize, low: u64, l: u64, h: u64, lows: &[u64]) -> bool
     if l <= low {
         return false;
     }
-    if l < lows[last_four(l)] {
+    if l < bounds[last_four(l)] {
         return true;
     }
     is_key(k, l, 0)
 }
 
 // The k-mer of the words l and h is a key, and above the key before it. So most keys are told without their reverse complements.
-fn follows(k: usize, low: u64, high: u64, l: u64, h: u64, lows: &[u64], highs: &[u64]) -> bool
-    requires { ⌜ (okK k ≡ true) × (joined low high < 4 ^ k) × (length (now lows) ≡ 256) × (length (now highs) ≡ 256) × Bounds k (now lows) (now highs) ⌝ }
+fn follows(k: usize, low: u64, high: u64, l: u64, h: u64, bounds: &[u64]) -> bool
+    requires { ⌜ (okK k ≡ true) × (joined low high < 4 ^ k) × (length (now bounds) ≡ 256) × Bounds k (now bounds) ⌝ }
     ensures { λ r. ⌜ r ≡ ltb (joined low high) (joined l h) && ltb (joined l h) (4 ^ k) && isCanon k (joined l h) ⌝ }
 {
     if k <= 32 {
-        return low_follows(k, low, l, h, lows);
+        return low_follows(k, low, l, h, bounds);
     }
     if !below(low, high, l, h) {
         return false;
     }
-    if is_told(k, l, h, lows, highs) {
+    if is_told(k, l, h, bounds) {
         return true;
     }
     is_key(k, l, h)
@@ -144,8 +140,8 @@ fn follows(k: usize, low: u64, high: u64, l: u64, h: u64, lows: &[u64], highs: &
 
 // The first k-mer is a key, and each other one follows the one before it. The cases of K are asked of each key: the compiler makes a
 // loop of each.
-fn all_fit(k: usize, n: usize, keys: &[u64], lows: &[u64], highs: &[u64]) -> bool
-    requires { ⌜ (okK k ≡ true) × (0 < n) × (n ≤ length (now keys) / 2) × (length (now lows) ≡ 256) × (length (now highs) ≡ 256) × Bounds k (now lows) (now highs) ⌝ }
+fn all_fit(k: usize, n: usize, keys: &[u64], bounds: &[u64]) -> bool
+    requires { ⌜ (okK k ≡ true) × (0 < n) × (n ≤ length (now keys) / 2) × (length (now bounds) ≡ 256) × Bounds k (now bounds) ⌝ }
     ensures { λ r. ⌜ r ≡ fitFrom k 0 (keysOf n (now (keys .entry))) ⌝ }
 {
     let mut low = keys[0];
@@ -157,7 +153,7 @@ fn all_fit(k: usize, n: usize, keys: &[u64], lows: &[u64], highs: &[u64]) -> boo
     while i < n {
         let l = keys[2 * i];
         let h = keys[2 * i + 1];
-        if !follows(k, low, high, l, h, lows, highs) {
+        if !follows(k, low, high, l, h, bounds) {
             return false;
         }
         low = l;
@@ -174,10 +170,9 @@ fn keys_fit(k: usize, n: usize, keys: &[u64]) -> bool
     if n == 0 {
         return true;
     }
-    let mut lows = [0u64; 256];
-    let mut highs = [0u64; 256];
-    make_bounds(k, &mut lows, &mut highs);
-    all_fit(k, n, keys, &lows, &highs)
+    let mut bounds = [0u64; 256];
+    make_bounds(k, &mut bounds);
+    all_fit(k, n, keys, &bounds)
 }
 
 // K is tested first, then the room, then the keys.

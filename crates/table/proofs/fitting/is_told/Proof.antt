@@ -2,25 +2,25 @@
 use mathlib.Core.Bool.{false≢true}
 use native.Mathlib.Omega.{arith}
 use borrow.Author.Needs.{needs}
-use Rattle.table.proofs.Bounded.{told-high, told-leading}
+use Rattle.table.proofs.Bounded.{told-middle, told-high}
 use Rattle.table.proofs.fitting.is_told.Statement.{statement}
 use Rattle.table.proofs.fitting.is_told.Tie as tie
 
 returns : tie.Need-returns
 returns c t =
     let f = c .before .before .last-four in
-    let s = c .before .before .before .before .before in
+    let s = c .before .before .before .before in
     let a = s .args in
-    told-high (a .k) (a .lows .now) (a .highs .now) (s .pre .2) (a .l) (a .h) (f .result) (f .ensures) (s .fits .l .fits) t
+    told-high (a .k) (a .bounds .now) (s .pre .2) (a .l) (a .h) (f .result) (f .ensures) (c .before .if1 .taken) (s .fits .l .fits) t
 
 returns-3 : tie.Need-returns-3
 returns-3 c t =
-    let leading = c .before .before .before in
-    let f = leading .before .before .before .last-four in
-    let s = leading .before .before .before .before .before .before in
+    let m = c .before in
+    let f = m .before .before .before .last-four in
+    let s = m .before .before .before .before .before in
     let a = s .args in
-    told-leading (a .k) (a .lows .now) (a .highs .now) (s .pre .2) (a .l) (a .h) (f .result) (f .ensures)
-    (omega arith) _ _ (leading .but-three .ensures) (c .but-three2 .ensures) t
+    told-middle (a .k) (a .bounds .now) (s .pre .2) (a .l) (a .h) (f .result) (f .ensures)
+    (s .pre .0) (omega arith) (omega arith) _ (m .but-three .ensures) t
 
 pub is-told-spec : {M : Type 1} → statement M
 is-told-spec =
@@ -34,7 +34,4 @@ is-told-spec =
     (λ c κs. search needs)
     (λ c. search needs)
     (λ c. search needs)
-    (λ c. search needs)
-    (λ c. search needs)
-    (λ c κs. search needs)
     returns-3)

@@ -14,9 +14,7 @@ keys-fit-spec =
     (tie.spec
     returns
     (λ c. search needs)
-    (λ c. search needs)
     (λ c κs. search needs)
-    (λ c. search needs)
     (λ c. search needs)
     (λ c κs. search needs)
     (λ c. search needs))

@@ -1,12 +1,10 @@
 -- A high word makes a k-mer too large; without one the low words decide. Assumes nothing.
 use mathlib.Core.Path.{_≡_, sym}
-use Prim.Native.Nat.{_<_}
 use native.Mathlib.Omega.{arith}
 use borrow.Author.Needs.{needs}
 use Rattle.kmer.specs.Kmer.{joined}
-use Rattle.table.specs.Bounds.{boundOf}
 use Rattle.table.proofs.Ascending.{too-low, not-low}
-use Rattle.table.proofs.Bounded.{bounded-key}
+use Rattle.table.proofs.Bounded.{told-low}
 use Rattle.table.proofs.Short.{no-high, too-high}
 use Rattle.table.proofs.fitting.low_follows.Statement.{statement}
 use Rattle.table.proofs.fitting.low_follows.Tie as tie
@@ -27,9 +25,9 @@ returns-3 c =
     let f = c .before .before .last-four in
     let s = c .before .before .before .before .before .before in
     let a = s .args in
-    let e = no-high (a .l) (a .h) (omega arith) in
-    let l : a .l < boundOf (a .k) (f .result) = omega (arith, s .pre .3 (f .result) (omega arith)) in
-    not-low (a .k) _ (joined (a .l) (a .h)) (rw e (omega arith)) (sym (bounded-key (a .k) (a .l) (a .h) (f .result) (f .ensures) (rw e l)))
+    let z : a .h ≡ 0 = omega arith in
+    not-low (a .k) _ (joined (a .l) (a .h)) (rw (no-high (a .l) (a .h) z) (omega arith))
+    (sym (told-low (a .k) (a .bounds .now) (s .pre .3) (a .l) (a .h) (f .result) (f .ensures) (s .pre .1) z (c .if3 .taken)))
 
 returns-4 : tie.Need-returns-4
 returns-4 c =

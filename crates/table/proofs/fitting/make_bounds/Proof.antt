@@ -1,25 +1,21 @@
 -- The bounds before b stand in their cells. Assumes nothing.
 use Prim.Native.Nat.{_-_}
 use borrow.Author.Needs.{needs}
-use lib.ListN.{getD}
 use Rattle.table.proofs.BoundsIn.{Bounding, bounding-none, bounding-more, bounding-all}
 use Rattle.table.proofs.fitting.make_bounds.Statement.{statement}
 use Rattle.table.proofs.fitting.make_bounds.Tie as tie
 
 abbrev Inv-loop : tie.InvT-loop
-Inv-loop k lows₀ highs₀ b₀ lows highs b = Bounding k lows highs b
+Inv-loop k bounds₀ b₀ bounds b = Bounding k bounds b
 
 abbrev μ-loop : tie.MeasureT-loop
-μ-loop k lows₀ highs₀ b₀ lows highs b = 256 - b
+μ-loop k bounds₀ b₀ bounds b = 256 - b
 
 loop-holds : tie.Need-loop-holds Inv-loop μ-loop
-loop-holds c = let s = c .before .before in bounding-none (s .pre .1) (s .pre .2)
+loop-holds c = bounding-none (c .before .pre .1)
 
 loop-again : tie.Need-loop-again Inv-loop μ-loop
-loop-again c =
-    let b = c .before .before in
-    let w = b .bound .result .words in
-    bounding-more (getD w 0 0) (getD w 1 0) (b .before .before .loop .inv) (b .before .loop-test .taken) (b .bound .ensures)
+loop-again c = bounding-more (c .bound .result) (c .before .before .loop .inv) (c .before .loop-test .taken) (c .bound .ensures)
 
 returns : tie.Need-returns Inv-loop μ-loop
 returns c = bounding-all (c .before .loop .inv) (c .loop-test .left)
@@ -37,11 +33,6 @@ make-bounds-spec =
     (λ c. search needs)
     (λ c. search needs)
     (λ c. search needs)
-    (λ c. search needs)
-    (λ c. search needs)
-    (λ c. search needs)
-    (λ c. search needs)
     loop-again
-    (λ c. search needs)
     (λ c. search needs)
     returns)
