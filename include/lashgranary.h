@@ -4,10 +4,11 @@
  * Each slice is a pointer and its length in elements. A pointer must be aligned, not null (for a length of 0 too) and good for
  * its length, and a slice that is not const must overlap no other slice of the call.
  *
- * Each call returns 0, or the number of the first refusal that applies. It writes its figures into the first cells of the slice
- * figures, as many as have room (two are always enough), and leaves the rest as it was: where it returns 0 the figures named
- * at the call, else what is returned beside the refusal, which is nothing where none is named. A refusal changes no other lent
- * memory, except that 8 and 9 set the first n marks to 0.
+ * Each call returns 0, or the number of the first refusal that applies (lash_add_labels: to the last label that was tried). It
+ * writes its figures into the first cells of the slice figures, as many as have room (two are always enough), and leaves the rest
+ * as it was: where it returns 0 the figures named at the call, else what is returned beside the refusal, which is nothing where
+ * none is named. A refusal changes no other lent memory, except that 8 and 9 set the first n marks to 0, and that
+ * lash_add_labels writes its totals and keeps the labels that it added before.
  *
  * A table of n vertices is keys, two words a vertex, low word first, and counts, one word of eight four-bit counters a vertex.
  * Its capacity is the least of half the keys' length, the counts' length and 65,536. An empty table is n = 0, whatever the
@@ -38,6 +39,25 @@ uint32_t lash_add_label(size_t k, size_t n,
                         uint32_t *counts, size_t counts_len,
                         const uint8_t *label, size_t label_len,
                         uint64_t *figures, size_t figures_len);
+
+/* Adds many labels to a table of n vertices: label i is the bytes of text from starts[i] on, lengths[i] of them, and the first count
+ * entries are added in order, as by lash_add_label, until one is refused. The table is tested for fitness for the first label alone,
+ * so that many short labels cost less than a call for each.
+ * Totals, two cells: the labels added, and the number stored after them, the n of the next call; they are written whatever is returned.
+ * Returned, and in figures: what lash_add_label returns and notes for the last label that was tried; the labels before one that is
+ * refused stay added. With a count of 0 nothing is tested, 0 is returned, and the figures are 0 and n.
+ * Refusal before the first label:
+ *   12  count past starts or lengths, or an entry past the text
+ */
+uint32_t lash_add_labels(size_t k, size_t n,
+                         uint64_t *keys, size_t keys_len,
+                         uint32_t *counts, size_t counts_len,
+                         const uint8_t *text, size_t text_len,
+                         const uint32_t *starts, size_t starts_len,
+                         const uint32_t *lengths, size_t lengths_len,
+                         size_t count,
+                         uint64_t *totals, size_t totals_len,
+                         uint64_t *figures, size_t figures_len);
 
 /* Contracts a table of n vertices; an edge is retained if its count is at least the cutoff. The labels' bases stand end to end
  * from the first byte of labels; starts and lengths list them in ascending byte order. The first n marks are 1 for a visited

@@ -23,3 +23,4 @@ pub mod Batch
 pub mod Listing
 pub mod Noted
 pub mod Finish
+pub mod OneByOne

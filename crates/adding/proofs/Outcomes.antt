@@ -1,23 +1,20 @@
 -- How adding a label ends before its k-mers are stored: the refusals 1, 5, 4, a label shorter than K, 3. Assumes nothing.
 use mathlib.Core.Path.{_≡_, refl, sym, ap, _∙_}
-use mathlib.Core.Bool.{true}
 use mathlib.Core.List.{List, []}
 use Prim.Native.Nat.{ℕ, _≤_, _<_}
 use lib.ListN.{length}
 use borrow.Author.Tests.{lt-ltb, le-ltb}
 use Rattle.dna.specs.Letters.{firstBad}
-use Rattle.kmer.specs.Kmer.{okK}
 use Rattle.kmer.proofs.Bounds.{ok-bounds}
 use Rattle.kmer.proofs.Testing.{no-bad-bases}
 use Rattle.state.specs.Counted.{fourBits}
-use Rattle.graph.specs.Table.{fit}
 use Rattle.graph.specs.Sightings.{sameCanonical}
 use Rattle.graph.specs.Adding.{Added, addBases, addLabel}
 use Rattle.table.specs.Calls.{fitAnswer, fitCall}
 use Rattle.table.specs.declared.FitAnswer.{FitAnswer}
 use Rattle.table.specs.declared.FitAnswer.the-variants.{Fit, Unfit, UnsupportedK}
 use Rattle.table.proofs.Told.{told-unsupported, told-unfit, told-fit}
-use Rattle.adding.specs.Says.{addAnswer, Adds, Addable, placeIn}
+use Rattle.adding.specs.Says.{addAnswer, Adds, Ready, Addable, placeIn}
 use Rattle.adding.specs.declared.Bad.{Bad}
 use Rattle.adding.specs.declared.Bad.the-variants as bad
 use Rattle.adding.specs.declared.AddAnswer.{AddAnswer}
@@ -30,23 +27,25 @@ whole K n keys counts label = addLabel fourBits sameCanonical K n keys counts la
 stays : {r : AddAnswer} {keys counts : List ℕ} → Adds r keys counts (record { answer = addAnswer r; keys = keys; counts = counts })
 stays = record { answer = refl; keys-after = refl; counts-after = refl }
 
-module _ (K n : ℕ) (keys counts label : List ℕ) {r : FitAnswer} (t : fitAnswer r ≡ fitCall K n keys counts) where
-  pub unsupported : {k : ℕ} → r ≡ UnsupportedK k → Adds (add.UnsupportedK k) keys counts (whole K n keys counts label)
-  unfolding addLabel
-  unsupported {k} e =
-      let q = told-unsupported K n keys counts t e in
-      rw (q .0, q .1) stays
+module _ (K n : ℕ) (keys counts label : List ℕ) where
+  -- The table is not fit for it, or is.
+  module _ {r : FitAnswer} (t : fitAnswer r ≡ fitCall K n keys counts) where
+    pub unsupported : {k : ℕ} → r ≡ UnsupportedK k → Adds (add.UnsupportedK k) keys counts (whole K n keys counts label)
+    unfolding addLabel
+    unsupported {k} e =
+        let q = told-unsupported K n keys counts t e in
+        rw (q .0, q .1) stays
 
-  pub unfit : r ≡ Unfit → Adds add.Unfit keys counts (whole K n keys counts label)
-  unfolding addLabel
-  unfit e =
-      let q = told-unfit K n keys counts t e in
-      rw (q .0, q .1) stays
+    pub unfit : r ≡ Unfit → Adds add.Unfit keys counts (whole K n keys counts label)
+    unfolding addLabel
+    unfit e =
+        let q = told-unfit K n keys counts t e in
+        rw (q .0, q .1) stays
 
-  module _ (e : r ≡ Fit) where
-    ok : (okK K ≡ true) × (fit K n keys counts ≡ true)
-    ok = told-fit K n keys counts t e
+    pub ready : r ≡ Fit → Ready K n keys counts
+    ready e = told-fit K n keys counts t e
 
+  module _ (ok : Ready K n keys counts) where
     pub too-long : 4096 < length label → Adds (add.TooLong (length label)) keys counts (whole K n keys counts label)
     unfolding addLabel
     too-long h = rw (ok .0, ok .1, lt-ltb 4096 (length label) h) stays

@@ -5,12 +5,13 @@ use mathlib.Core.Bool.{true}
 use mathlib.Core.List.{List, [], _∷_}
 use lib.ListN.{length, getD}
 use Rattle.dna.specs.Answer.{Answer, gives, refuses}
-use Rattle.kmer.specs.Kmer.{canon, isCanon}
+use Rattle.kmer.specs.Kmer.{okK, canon, isCanon}
 use Rattle.kmer.specs.Says.{valueOf}
 use Rattle.kmer.proofs.Windows.{Bases}
 use Rattle.graph.specs.Table.{keysOf, fit, fitFrom, rank}
 use Rattle.graph.specs.Sightings.{window, windows}
 use Rattle.graph.specs.Adding.{Edges, Added}
+use Rattle.graph.specs.Several.{Several}
 use Rattle.table.specs.declared.JoinAnswer.{JoinAnswer}
 use Rattle.table.specs.declared.JoinAnswer.the-variants as join
 use Rattle.keysort.specs.Rows.{keyAt}
@@ -20,6 +21,8 @@ use Rattle.adding.specs.declared.Bad.the-variants as bad
 use Rattle.adding.specs.declared.Seen.{Seen}
 use Rattle.adding.specs.declared.AddAnswer.{AddAnswer}
 use Rattle.adding.specs.declared.AddAnswer.the-variants as add
+use Rattle.adding.specs.declared.LabelsAnswer.{LabelsAnswer}
+use Rattle.adding.specs.declared.LabelsAnswer.the-variants as labels
 
 -- The edges and the number stored afterwards, or a refusal.
 abbrev pub addAnswer : AddAnswer → Answer Edges
@@ -42,6 +45,17 @@ pub record Adds (r : AddAnswer) (keys counts : List ℕ) (a : Added) : Type 0 wh
   pub keys-after : keys ≡ a .keys
   pub counts-after : counts ≡ a .counts
 
+-- Many labels: how many were added, the number stored and the last answer; or a refusal before the first, with n stored.
+abbrev pub labelsSay : ℕ → LabelsAnswer → Several → Type 0
+labelsSay n (labels.Tried m stored last) s = (m ≡ s .labels) × (stored ≡ s .stored) × (addAnswer last ≡ s .answer)
+labelsSay n labels.OutOfText s = (0 ≡ s .labels) × (n ≡ s .stored) × (refuses 12 [] ≡ s .answer)
+
+-- A call that adds many to n vertices: what it says, and the slices at exit.
+pub record AddsLabels (n : ℕ) (r : LabelsAnswer) (keys counts : List ℕ) (s : Several) : Type 0 where
+  pub says : labelsSay n r s
+  pub keys-after : keys ≡ s .keys
+  pub counts-after : counts ≡ s .counts
+
 -- The place and the byte that are no base; nothing where all are.
 abbrev pub placeIn : Bad → List ℕ
 placeIn bad.Nowhere = []
@@ -54,6 +68,10 @@ pub record Given (K : ℕ) (label : List ℕ) : Type 0 where
   pub long : K ≤ length label
   pub short : length label ≤ 4096
   pub bases : Bases label
+
+-- A K in its range, and slices that hold a fit table of n vertices.
+abbrev pub Ready : ℕ → ℕ → List ℕ → List ℕ → Type 0
+Ready K n keys counts = (okK K ≡ true) × (fit K n keys counts ≡ true)
 
 -- Such a label, and slices that hold a fit table of n vertices to which it is to be added.
 pub record Addable (K : ℕ) (label : List ℕ) (n : ℕ) (keys counts : List ℕ) : Type 0 where

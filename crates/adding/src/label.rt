@@ -9,7 +9,7 @@ ghost use Rattle.graph.specs.Table.{keysOf};
 ghost use Rattle.graph.specs.Sightings.{sameCanonical, windows};
 ghost use Rattle.graph.specs.Adding.{addLabel, addBases};
 ghost use Rattle.adding.specs.Batch.{Looked, Grouped, sortedNew};
-ghost use Rattle.adding.specs.Says.{Addable, Spare, Roomy, Adds, joinedAnswer, placeIn};
+ghost use Rattle.adding.specs.Says.{Addable, Spare, Ready, Roomy, Adds, joinedAnswer, placeIn};
 use super::AddAnswer;
 use super::Bad;
 use super::counting;
@@ -171,7 +171,33 @@ fn add_bases(k: usize, n: usize, keys: &mut [u64], counts: &mut [u32], label: &[
     add_long(k, n, keys, counts, label)
 }
 
-// The label tested whole, then added: refusals 1, 5, 4, a label shorter than K, 3, 6.
+// The label tested whole, then added, to a table that is known to be fit: refusal 4, a label shorter than K, 3, 6.
+pub(crate) fn add_to_fit(
+    k: usize,
+    n: usize,
+    keys: &mut [u64],
+    counts: &mut [u32],
+    label: &[u8],
+) -> AddAnswer
+    requires { ⌜ Ready k n (now keys) (now counts) ⌝ }
+    ensures { λ r. ⌜ Adds r (now (keys .exit)) (now (counts .exit)) (addLabel fourBits sameCanonical k n (now (keys .entry)) (now (counts .entry)) (now (label .entry))) ⌝ }
+{
+    if 4096 < label.len() {
+        return AddAnswer::TooLong(label.len());
+    }
+    if label.len() < k {
+        return AddAnswer::Added {
+            edges: 0,
+            stored: n,
+        };
+    }
+    match first_bad(label) {
+        Bad::At { place, byte } => AddAnswer::InvalidBase { place, byte },
+        Bad::Nowhere => add_bases(k, n, keys, counts, label),
+    }
+}
+
+// Refusals 1 and 5 before those of the label.
 pub fn add_label(
     k: usize,
     n: usize,
@@ -184,20 +210,6 @@ pub fn add_label(
     match table::fit(k, n, keys, counts) {
         FitAnswer::UnsupportedK(k) => AddAnswer::UnsupportedK(k),
         FitAnswer::Unfit => AddAnswer::Unfit,
-        FitAnswer::Fit => {
-            if 4096 < label.len() {
-                return AddAnswer::TooLong(label.len());
-            }
-            if label.len() < k {
-                return AddAnswer::Added {
-                    edges: 0,
-                    stored: n,
-                };
-            }
-            match first_bad(label) {
-                Bad::At { place, byte } => AddAnswer::InvalidBase { place, byte },
-                Bad::Nowhere => add_bases(k, n, keys, counts, label),
-            }
-        }
+        FitAnswer::Fit => add_to_fit(k, n, keys, counts, label),
     }
 }

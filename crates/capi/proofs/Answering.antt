@@ -1,17 +1,21 @@
 -- The number and the figures of each case are what its call's answer says. Assumes nothing.
 use mathlib.Core.Path.{_≡_, sym, ap, _∙_}
-use mathlib.Core.List.{List}
+use mathlib.Core.List.{List, [], _∷_}
 use Prim.Native.Nat.{ℕ}
 use Rattle.dna.specs.Answer.{Answer, Filled}
 use Rattle.graph.specs.Adding.{Edges, Added}
+use Rattle.graph.specs.Several.{Several}
 use Rattle.graph.specs.Contraction.{Totals, Contracted}
 use Rattle.adding.specs.declared.AddAnswer.{AddAnswer}
-use Rattle.adding.specs.Says.{addAnswer, Adds}
+use Rattle.adding.specs.declared.LabelsAnswer.{LabelsAnswer}
+use Rattle.adding.specs.declared.LabelsAnswer.the-variants as labels
+use Rattle.adding.specs.Says.{addAnswer, Adds, labelsSay, AddsLabels}
 use Rattle.contraction.specs.declared.ContractAnswer.{ContractAnswer}
 use Rattle.contraction.specs.Says.{contractAnswer, Contracts}
 use Rattle.fasta.specs.declared.FastaAnswer.{FastaAnswer}
 use Rattle.fasta.specs.Says.{fastaAnswer, Lists}
-use Rattle.capi.specs.Says.{numberOf, figures, noted, ofEdges, ofTotals, ofSize, Tells, AddsLabel, ContractsTable, WritesFasta}
+use Rattle.capi.specs.Says.{numberOf, figures, noted, ofEdges, ofTotals, ofSize, Tells, AddsLabel, AddsSeveral, ContractsTable, WritesFasta}
+use Rattle.capi.proofs.Noting.{noted-none}
 
 -- Over the figures before and after; `case` is what an answer was found to be.
 module _ {before after : List ℕ} where
@@ -28,6 +32,33 @@ module _ {before after : List ℕ} where
     keys-after = d .keys-after;
     counts-after = d .counts-after;
   }
+
+  -- Many labels: all that was tried is told, or no label was tried.
+  module _ {n m : ℕ} {r : LabelsAnswer} {keys counts totals totals′ : List ℕ} {s : Several} (d : AddsLabels n r keys counts s) where
+    pub adds-many : (tried stored : ℕ) {last : AddAnswer} → r ≡ labels.Tried tried stored last
+        → totals′ ≡ noted (tried ∷ stored ∷ []) totals → Tells ofEdges (addAnswer last) m before after
+        → AddsSeveral m keys counts totals totals′ before after s
+    adds-many tried stored {last} e h t =
+        let says : labelsSay n (labels.Tried tried stored last) s = rw e at (d .says) in
+        record {
+          number = t .number ∙ ap numberOf (says .2);
+          totals-after = rw (says .0, says .1) at h;
+          figures-after = t .figures-after ∙ ap (λ (x : Answer Edges). noted (figures ofEdges x) before) (says .2);
+          keys-after = d .keys-after;
+          counts-after = d .counts-after;
+        }
+
+    pub adds-none : r ≡ labels.OutOfText → totals′ ≡ noted (0 ∷ n ∷ []) totals → m ≡ 12 → after ≡ before
+        → AddsSeveral m keys counts totals totals′ before after s
+    adds-none e h q same =
+        let says : labelsSay n labels.OutOfText s = rw e at (d .says) in
+        record {
+          number = q ∙ ap numberOf (says .2);
+          totals-after = rw (says .0, says .1) at h;
+          figures-after = same ∙ noted-none before ∙ ap (λ (x : Answer Edges). noted (figures ofEdges x) before) (says .2);
+          keys-after = d .keys-after;
+          counts-after = d .counts-after;
+        }
 
   pub contracts : {r : ContractAnswer} {n : ℕ} {labels starts lengths marks : List ℕ} {c : Contracted}
       → Contracts r labels starts lengths marks c → Tells ofTotals (contractAnswer r) n before after

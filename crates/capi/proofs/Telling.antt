@@ -4,8 +4,9 @@ use mathlib.Core.List.{List}
 use Prim.Native.Nat.{ℕ}
 use Rattle.dna.specs.Answer.{Filled}
 use Rattle.graph.specs.Adding.{Added}
+use Rattle.graph.specs.Several.{Several}
 use Rattle.graph.specs.Contraction.{Contracted}
-use Rattle.capi.specs.Says.{AddsLabel, ContractsTable, WritesFasta}
+use Rattle.capi.specs.Says.{AddsLabel, AddsSeveral, ContractsTable, WritesFasta}
 
 -- Over the number and the figures of either, and the figures before.
 module _ {r s : ℕ} {figures₀ figures figures′ : List ℕ} where
@@ -14,6 +15,17 @@ module _ {r s : ℕ} {figures₀ figures figures′ : List ℕ} where
       → (r ≡ s) × (figures ≡ figures′) × (keys ≡ keys′) × (counts ≡ counts′)
   adds-label-one t u = (
     t .number ∙ sym (u .number),
+    t .figures-after ∙ sym (u .figures-after),
+    t .keys-after ∙ sym (u .keys-after),
+    t .counts-after ∙ sym (u .counts-after),
+  )
+
+  pub adds-labels-one : {keys keys′ counts counts′ totals₀ totals totals′ : List ℕ} {a : Several}
+      → AddsSeveral r keys counts totals₀ totals figures₀ figures a → AddsSeveral s keys′ counts′ totals₀ totals′ figures₀ figures′ a
+      → (r ≡ s) × (totals ≡ totals′) × (figures ≡ figures′) × (keys ≡ keys′) × (counts ≡ counts′)
+  adds-labels-one t u = (
+    t .number ∙ sym (u .number),
+    t .totals-after ∙ sym (u .totals-after),
     t .figures-after ∙ sym (u .figures-after),
     t .keys-after ∙ sym (u .keys-after),
     t .counts-after ∙ sym (u .counts-after),

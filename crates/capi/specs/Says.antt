@@ -6,6 +6,7 @@ use lib.ListN.{length, take}
 use Rattle.dna.specs.Text.{over}
 use Rattle.dna.specs.Answer.{Answer, gives, refuses, Filled}
 use Rattle.graph.specs.Adding.{Edges, Added}
+use Rattle.graph.specs.Several.{Several}
 use Rattle.graph.specs.Contraction.{Totals, Contracted}
 
 abbrev pub numberOf : {A : Type 0} → Answer A → ℕ
@@ -41,6 +42,13 @@ pub record AddsLabel (r : ℕ) (keys counts figures₀ figures′ : List ℕ) (a
   pub figures-after : figures′ ≡ noted (figures ofEdges (a .answer)) figures₀
   pub keys-after : keys ≡ a .keys
   pub counts-after : counts ≡ a .counts
+
+pub record AddsSeveral (r : ℕ) (keys counts totals₀ totals′ figures₀ figures′ : List ℕ) (s : Several) : Type 0 where
+  pub number : r ≡ numberOf (s .answer)
+  pub totals-after : totals′ ≡ noted (s .labels ∷ s .stored ∷ []) totals₀
+  pub figures-after : figures′ ≡ noted (figures ofEdges (s .answer)) figures₀
+  pub keys-after : keys ≡ s .keys
+  pub counts-after : counts ≡ s .counts
 
 pub record ContractsTable (r : ℕ) (labels starts lengths marks figures₀ figures′ : List ℕ) (c : Contracted) : Type 0 where
   pub number : r ≡ numberOf (c .answer)

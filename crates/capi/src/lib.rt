@@ -5,12 +5,14 @@ ghost use mathlib.Core.List.{[], _∷_};
 ghost use Rattle.state.specs.Counted.{fourBits};
 ghost use Rattle.graph.specs.Sightings.{sameCanonical};
 ghost use Rattle.graph.specs.Adding.{addLabel};
+ghost use Rattle.graph.specs.Several.{addLabels};
 ghost use Rattle.graph.specs.Contraction.{contract};
 ghost use Rattle.graph.specs.Fasta.{fasta};
 ghost use Rattle.adding.specs.Says.{addAnswer};
 ghost use Rattle.contraction.specs.Says.{contractAnswer};
-ghost use Rattle.capi.specs.Says.{noted, ofEdges, ofTotals, Tells, AddsLabel, ContractsTable, WritesFasta};
+ghost use Rattle.capi.specs.Says.{noted, ofEdges, ofTotals, Tells, AddsLabel, AddsSeveral, ContractsTable, WritesFasta};
 use adding::AddAnswer;
+use adding::LabelsAnswer;
 use contraction::ContractAnswer;
 use fasta::FastaAnswer;
 
@@ -92,6 +94,38 @@ pub extern "C" fn lash_add_label(
     ensures { λ r. ⌜ AddsLabel r (now (keys .exit)) (now (counts .exit)) (now (figures .entry)) (now (figures .exit)) (addLabel fourBits sameCanonical k n (now (keys .entry)) (now (counts .entry)) (now (label .entry))) ⌝ }
 {
     tell_added(adding::add_label(k, n, keys, counts, label), figures)
+}
+
+// `add_labels`: totals are the labels added and the number stored after them, figures those of the last label that was tried.
+#[no_mangle]
+pub extern "C" fn lash_add_labels(
+    k: usize,
+    n: usize,
+    keys: &mut [u64],
+    counts: &mut [u32],
+    text: &[u8],
+    starts: &[u32],
+    lengths: &[u32],
+    count: usize,
+    totals: &mut [u64],
+    figures: &mut [u64],
+) -> u32
+    ensures { λ r. ⌜ AddsSeveral r (now (keys .exit)) (now (counts .exit)) (now (totals .entry)) (now (totals .exit)) (now (figures .entry)) (now (figures .exit)) (addLabels fourBits sameCanonical k n (now (keys .entry)) (now (counts .entry)) (now (text .entry)) (now (starts .entry)) (now (lengths .entry)) count) ⌝ }
+{
+    match adding::add_labels(k, n, keys, counts, text, starts, lengths, count) {
+        LabelsAnswer::Tried {
+            labels,
+            stored,
+            last,
+        } => {
+            note_two(labels as u64, stored as u64, totals);
+            tell_added(last, figures)
+        }
+        LabelsAnswer::OutOfText => {
+            note_two(0, n as u64, totals);
+            12
+        }
+    }
 }
 
 // `contract`: figures are the number of labels and their bases.

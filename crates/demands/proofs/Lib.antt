@@ -1,2 +1,5 @@
+pub mod Growing
 pub mod Meets
 pub mod Program
+pub mod Every
+pub mod Example

@@ -1,24 +1,29 @@
--- The customer's demand 3 as a fact about every run of the code: a table made by calls of `add_label`, and a call of `contract` over it that is
--- not refused. Assumes nothing.
+-- The customer's demand 3 as a fact about every run of the code: a table made by calls of `add_label` and `add_labels`, and a call of `contract`
+-- over it that is not refused. Assumes nothing.
 use mathlib.Core.Path.{_≡_, sym, ap, _∙_}
 use mathlib.Core.List.{List, []}
 use Prim.Native.Nat.{ℕ}
-use Rattle.dna.specs.Answer.{gives}
+use Rattle.dna.specs.Answer.{gives, refuses}
 use Rattle.state.specs.Counted.{fourBits}
 use Rattle.graph.specs.Table.{tableOf, keysOf}
 use Rattle.graph.specs.Sightings.{sameCanonical}
+use Rattle.graph.specs.Adding.{addLabel}
+use Rattle.graph.specs.Entries.{listed}
 use Rattle.graph.specs.Contraction.{Totals, Contracted, endsIn, contract}
-use Rattle.adding.specs.Says.{addAnswer}
+use Rattle.graph.proofs.Accepted.{refused-same}
+use Rattle.adding.specs.declared.AddAnswer.{AddAnswer}
+use Rattle.adding.specs.Says.{addAnswer, Adds}
 use Rattle.contraction.specs.declared.ContractAnswer.{ContractAnswer}
 use Rattle.contraction.specs.declared.ContractAnswer.the-variants as answers
 use Rattle.contraction.specs.Says.{contractAnswer, Contracts}
 use Rattle.laws.specs.Grown.{Grown, Grown.fresh, Grown.accepts}
-use Rattle.laws.specs.Demand.{listed, Always, Demand3}
+use Rattle.laws.specs.Demand.{Always, Demand3}
 use Rattle.laws.proofs.Demand.{demand3}
 use Rattle.laws.proofs.Listed.{contract-always}
 use Rattle.laws.proofs.Found.{grown-contract}
 use Rattle.laws.proofs.Again.{contract-again}
-use Rattle.demands.specs.Calls.{Called, Called.fresh as start, Called.adds as next}
+use Rattle.demands.specs.Calls.{Called, Called.fresh as start, Called.adds as next, Called.adds-many as several}
+use Rattle.demands.proofs.Growing.{added-grown}
 
 -- What calls make is a grown table.
 pub called-grown : {K : ℕ} {ls : List (List ℕ)} {n : ℕ} {keys counts : List ℕ} → Called K ls n keys counts
@@ -27,6 +32,15 @@ called-grown (start keys counts) = fresh keys counts
 called-grown (next c l a {edges} {stored} e) =
     rw (a .keys-after, a .counts-after)
     (accepts (called-grown c) l (record { edges = edges; stored = stored }) (sym (a .answer) ∙ ap addAnswer e))
+called-grown (several c text starts lengths count a) = added-grown (called-grown c) text starts lengths count a
+
+-- A refused call leaves the table as it was.
+pub called-refused : {K : ℕ} {ls : List (List ℕ)} {n : ℕ} {keys counts : List ℕ} → Called K ls n keys counts
+    → (l : List ℕ) {r : AddAnswer} {keys′ counts′ : List ℕ} → Adds r keys′ counts′ (addLabel fourBits sameCanonical K n keys counts l)
+    → (x : ℕ) (vs : List ℕ) → addAnswer r ≡ refuses x vs → Called K ls n keys′ counts′
+called-refused {K} {n = n} {keys = keys} {counts = counts} c l a x vs e =
+    let s = refused-same fourBits sameCanonical K n keys counts l x vs (sym (a .answer) ∙ e) in
+    rw (a .keys-after, a .counts-after, s .keys-same, s .counts-same) c
 
 -- A call of `contract`, known by its contract.
 module _ (K cutoff n : ℕ) (keys counts labels starts lengths marks : List ℕ) {r : ContractAnswer} {labels′ starts′ lengths′ marks′ : List ℕ}

@@ -1,63 +1,80 @@
--- Demand 3 for the program: the labels of a file are added from none stored, so the list that is made of them meets it. Assumes nothing.
-use mathlib.Core.Path.{_≡_, refl}
-use mathlib.Core.List.{List, [], _∷_}
-use Prim.Native.Nat.{ℕ, suc}
-use native.Mathlib.Omega.{arith}
-use Rattle.dna.specs.Answer.{Answer, gives, refuses}
+-- Demand 3 of the very bytes that the program prints: where nothing is refused, they are the records of a list that meets it. Assumes nothing.
+use mathlib.Core.Path.{_≡_, ap, _∙_}
+use mathlib.Core.Bool.{true}
+use mathlib.Core.List.{List, []}
+use Prim.Native.Nat.{ℕ, suc, _≤_}
+use borrow.Author.Tests.{le-ltb}
+use lib.ListN.{length, drop, length-replicate}
+use lib.Seq.{take-append-seam}
+use Rattle.dna.specs.Text.{over}
+use Rattle.dna.specs.Answer.{gives, Filled}
+use Rattle.kmer.specs.Kmer.{okK}
 use Rattle.state.specs.Counted.{fourBits}
-use Rattle.graph.specs.Table.{tableOf, keysOf}
-use Rattle.graph.specs.Sightings.{sameCanonical}
-use Rattle.graph.specs.Adding.{Edges, Added, addLabel}
-use Rattle.graph.specs.Contraction.{Totals, Contracted, endsIn, contract}
-use Rattle.label_file.specs.Output.{Buffers, Taken, takeFrom}
-use Rattle.laws.specs.Grown.{Grown, Grown.fresh, Grown.accepts}
-use Rattle.laws.specs.Demand.{listed, Demand3}
+use Rattle.graph.specs.Adding.{Edges}
+use Rattle.graph.specs.Entries.{listed, within}
+use Rattle.graph.specs.Several.{Several, untried}
+use Rattle.graph.specs.Contraction.{Totals, Contracted}
+use Rattle.graph.specs.Fasta.{recordsOf, fasta}
+use Rattle.label_file.specs.LabelFile.{holds, fileOf}
+use Rattle.label_file.specs.Output.{Buffers, withTable, withList, withText, printed, listedAfter, listAll, output, zeros, printing, unitigs}
+use Rattle.laws.specs.Grown.{Grown.fresh}
+use Rattle.laws.specs.Demand.{Demand3}
 use Rattle.laws.proofs.Demand.{demand3}
+use Rattle.laws.proofs.Listed.{contract-within}
+use Rattle.demands.specs.Printed.{table, keys, ends, result, list}
+use Rattle.demands.proofs.Growing.{grows}
 
--- Labels put on one after the other, the last one first.
-abbrev pub onto : List (List ℕ) → List (List ℕ) → List (List ℕ)
-onto [] done = done
-onto (l ∷ ls) done = onto ls (l ∷ done)
+-- A list whose index lies within its bytes, and whose records fit the text, is printed whole.
+module _ (p : ℕ) (b : Buffers) (c : Contracted) {t : Totals} (given : c .answer ≡ gives t)
+    (inside : within (c .labels) (t .labels) (c .starts) (c .lengths) ≡ true)
+    (room : length (recordsOf (listed (t .labels) (c .labels) (c .starts) (c .lengths))) ≤ length (b .text)) where
+  abbrev all : List ℕ
+  all = recordsOf (listed (t .labels) (c .labels) (c .starts) (c .lengths))
 
--- The first label is not refused, and the others are taken after it.
-module _ (K p : ℕ) (l : List ℕ) (ls done : List (List ℕ)) (n : ℕ) (keys counts : List ℕ) (m : ℕ) where
-  abbrev first : Added
-  first = addLabel fourBits sameCanonical K n keys counts l
+  filled : fasta (c .labels) (c .starts) (c .lengths) (t .labels) (b .text) ≡ record { answer = gives (length all); slice = over all (b .text) }
+  unfolding fasta
+  filled = rw (inside, le-ltb (length (b .text)) (length all) room)
 
-  abbrev rest : Edges → Taken
-  rest d = takeFrom K (suc p) ls (d .stored) (first .keys) (first .counts)
+  pub list-printed : printing (listedAfter p b c) ≡ all
+  unfolding listedAfter printed
+  list-printed =
+      rw (given, listedAfter)
+      (ap (λ (f : Filled). printing (withText (withList b c) (printed p (b .text) f))) filled ∙ take-append-seam all (drop (length all) (b .text)))
 
-  abbrev After : Taken → Type 0
-  After t = Grown fourBits sameCanonical K (onto ls (l ∷ done)) m (t .keys) (t .counts)
+module _ (K cutoff : ℕ) (labels : List (List ℕ)) {t : Totals} (given : result K cutoff labels .answer ≡ gives t) where
+  abbrev start : Several
+  start = untried 0 (zeros .keys) (zeros .counts)
 
-  taken-first : ((d : Edges) → first .answer ≡ gives d → rest d .answer ≡ gives m → After (rest d)) → (x : Answer Edges) → first .answer ≡ x
-      → takeFrom K p (l ∷ ls) n keys counts .answer ≡ gives m → After (takeFrom K p (l ∷ ls) n keys counts)
-  unfolding takeFrom
-  taken-first go (gives d) q e = rw (q, takeFrom) (go d q (rw (q, takeFrom) at e))
-  taken-first go (refuses r vs) q e = let f = rw (q, takeFrom) at e in absurd (let z : _≡_ {A = ℕ} 0 1 = cc in omega arith)
+  pub list-meets : Demand3 K (keys K labels) (ends K cutoff labels) (list K cutoff labels (t .labels))
+  list-meets =
+      demand3 (grows K start labels [] (fresh (zeros .keys) (zeros .counts)) .grown) cutoff (zeros .labels) (zeros .starts) (zeros .lengths)
+      (zeros .marks) t given
 
--- Labels of which none is refused have grown the table.
-pub taken-grown : (K p : ℕ) (ls done : List (List ℕ)) (n : ℕ) (keys counts : List ℕ) → Grown fourBits sameCanonical K done n keys counts
-    → (m : ℕ) → takeFrom K p ls n keys counts .answer ≡ gives m
-    → Grown fourBits sameCanonical K (onto ls done) m (takeFrom K p ls n keys counts .keys) (takeFrom K p ls n keys counts .counts)
-unfolding takeFrom
-taken-grown K p [] done n keys counts g m e = let q : n ≡ m = cc in rw (← q) g
-taken-grown K p (l ∷ ls) done n keys counts g m e =
-    let a = addLabel fourBits sameCanonical K n keys counts l in
-    taken-first K p l ls done n keys counts m
-    (λ d q. taken-grown K (suc p) ls (l ∷ done) (d .stored) (a .keys) (a .counts) (accepts g l d q) m) (a .answer) refl e
+  pub list-inside : (let c = result K cutoff labels in within (c .labels) (t .labels) (c .starts) (c .lengths) ≡ true)
+  list-inside =
+      let s = table K labels in
+      contract-within fourBits K cutoff (s .stored) (s .keys) (s .counts) (zeros .labels) (zeros .starts) (zeros .lengths) (zeros .marks) t given
 
-module _ (K cutoff : ℕ) (labels : List (List ℕ)) (b : Buffers) where
-  abbrev taken : Taken
-  taken = takeFrom K 1 labels 0 (b .keys) (b .counts)
+-- Where no label is refused, the program lists the table.
+lists : (file : List ℕ) {K cutoff : ℕ} {labels : List (List ℕ)} → fileOf file ≡ holds K cutoff labels → okK K ≡ true
+    → {e : Edges} → table K labels .answer ≡ gives e
+    → (let s = table K labels in
+    output zeros file ≡ listedAfter (suc (s .labels)) (withTable zeros (s .keys) (s .counts)) (result K cutoff labels))
+unfolding output listAll
+lists file sound supported added = rw (sound, output, supported, added, listAll)
 
-  abbrev result : ℕ → Contracted
-  result n = contract fourBits K cutoff n (taken .keys) (taken .counts) (b .labels) (b .starts) (b .lengths) (b .marks)
-
-  -- The list that `listAll`, and so the program, writes as FASTA where no label and no room is refused.
-  pub program-meets : (n : ℕ) → taken .answer ≡ gives n → (t : Totals) → result n .answer ≡ gives t
-      → Demand3 K (keysOf n (taken .keys)) (endsIn fourBits cutoff (tableOf n (taken .keys) (taken .counts)))
-      (listed (t .labels) (result n .labels) (result n .starts) (result n .lengths))
-  program-meets n e t h =
-      demand3 (taken-grown K 1 labels [] 0 (b .keys) (b .counts) (fresh (b .keys) (b .counts)) n e) cutoff (b .labels) (b .starts)
-      (b .lengths) (b .marks) t h
+-- Where the form, K, the labels and contraction are not refused, and the records fit the text: they are what is printed, and the list meets
+-- demand 3.
+pub program-prints : (file : List ℕ) {K cutoff : ℕ} {labels : List (List ℕ)} → fileOf file ≡ holds K cutoff labels → okK K ≡ true
+    → {e : Edges} → table K labels .answer ≡ gives e
+    → {t : Totals} → result K cutoff labels .answer ≡ gives t
+    → length (recordsOf (list K cutoff labels (t .labels))) ≤ 8192
+    → (unitigs file ≡ recordsOf (list K cutoff labels (t .labels)))
+    × Demand3 K (keys K labels) (ends K cutoff labels) (list K cutoff labels (t .labels))
+program-prints file {K} {cutoff} {labels} sound supported added {t} given fits =
+    let s = table K labels in
+    let room : length (recordsOf (list K cutoff labels (t .labels))) ≤ length (zeros .text) = rw (length-replicate {A = ℕ} 8192 0) fits in (
+      ap printing (lists file sound supported added)
+          ∙ list-printed (suc (s .labels)) (withTable zeros (s .keys) (s .counts)) (result K cutoff labels) given (list-inside K cutoff labels given) room,
+      list-meets K cutoff labels given,
+    )

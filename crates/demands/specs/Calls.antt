@@ -1,18 +1,41 @@
--- A table made by calls of `add_label` alone. Assumes nothing.
+-- A table made by calls of `add_label` and `add_labels` alone. Assumes nothing.
 use Prim.Native.Nat.{ℕ}
 use mathlib.Core.Path.{_≡_}
 use mathlib.Core.List.{List, [], _∷_}
+use lib.ListN.{take}
 use Rattle.state.specs.Counted.{fourBits}
 use Rattle.graph.specs.Sightings.{sameCanonical}
 use Rattle.graph.specs.Adding.{addLabel}
+use Rattle.graph.specs.Entries.{listed}
+use Rattle.graph.specs.Several.{addLabels}
 use Rattle.adding.specs.declared.AddAnswer.{AddAnswer}
-use Rattle.adding.specs.declared.AddAnswer.the-variants.{Added}
-use Rattle.adding.specs.Says.{Adds}
+use Rattle.adding.specs.declared.AddAnswer.the-variants as one
+use Rattle.adding.specs.declared.LabelsAnswer.{LabelsAnswer}
+use Rattle.adding.specs.declared.LabelsAnswer.the-variants as many
+use Rattle.adding.specs.Says.{Adds, AddsLabels}
 
--- At one K and from none stored: the labels of the calls that answered `Added`, last one first, and the number stored and the two lent slices
--- as the last call left them. A call is known by its contract.
+-- Labels put on others one by one, so that the last one comes first.
+abbrev pub onto : List (List ℕ) → List (List ℕ) → List (List ℕ)
+onto [] done = done
+onto (l ∷ ls) done = onto ls (l ∷ done)
+
+-- How many labels a call of `add_labels` added, and the number stored after it where n were before.
+abbrev pub addedBy : LabelsAnswer → ℕ
+addedBy (many.Tried added stored last) = added
+addedBy many.OutOfText = 0
+
+abbrev pub storedBy : ℕ → LabelsAnswer → ℕ
+storedBy n (many.Tried added stored last) = stored
+storedBy n many.OutOfText = n
+
+-- At one K and from none stored: the labels that were added, last one first, and the number stored and the two lent slices as the last call left
+-- them. A call is known by its contract. One of `add_labels` adds the first of its labels, up to one that is refused.
 pub data Called (K : ℕ) : List (List ℕ) → ℕ → List ℕ → List ℕ → Type 0 where
   fresh : (keys counts : List ℕ) → Called K [] 0 keys counts
   adds : {ls : List (List ℕ)} {n : ℕ} {keys counts : List ℕ} → Called K ls n keys counts
       → (l : List ℕ) {r : AddAnswer} {keys′ counts′ : List ℕ} → Adds r keys′ counts′ (addLabel fourBits sameCanonical K n keys counts l)
-      → {edges stored : ℕ} → r ≡ Added edges stored → Called K (l ∷ ls) stored keys′ counts′
+      → {edges stored : ℕ} → r ≡ one.Added edges stored → Called K (l ∷ ls) stored keys′ counts′
+  adds-many : {ls : List (List ℕ)} {n : ℕ} {keys counts : List ℕ} → Called K ls n keys counts
+      → (text starts lengths : List ℕ) (count : ℕ) {r : LabelsAnswer} {keys′ counts′ : List ℕ}
+      → AddsLabels n r keys′ counts′ (addLabels fourBits sameCanonical K n keys counts text starts lengths count)
+      → Called K (onto (take (addedBy r) (listed count text starts lengths)) ls) (storedBy n r) keys′ counts′

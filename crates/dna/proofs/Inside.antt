@@ -1,5 +1,5 @@
 -- The size that a call answers lies within the slice that it filled. Assumes nothing.
-use mathlib.Core.Path.{_≡_}
+use mathlib.Core.Path.{_≡_, sym}
 use mathlib.Core.List.{List, []}
 use Prim.Native.Nat.{ℕ, _≤_}
 use native.Mathlib.Omega.{arith}
@@ -7,12 +7,13 @@ use lib.Dec.{ltb}
 use lib.ListN.{length, drop, length-append}
 use Rattle.lemmas.proofs.Tests.{choose}
 use Rattle.dna.specs.Answer.{gives, refuses, Filled, fill}
+use Rattle.dna.proofs.Answers.{ungiven}
 
 abbrev pub Inside : Filled → Type 0
 Inside f = (n : ℕ) → f .answer ≡ gives n → n ≤ length (f .slice)
 
 pub refused-inside : (r : ℕ) (vs slice : List ℕ) → Inside (record { answer = refuses r vs; slice = slice })
-refused-inside r vs slice n e = let z : _≡_ {A = ℕ} 0 1 = cc in absurd (omega arith)
+refused-inside r vs slice n e = ungiven n r vs (sym e)
 
 given : {a b : ℕ} → gives a ≡ gives b → a ≡ b
 given e = cc

@@ -7,4 +7,5 @@ pub mod Reversal
 pub mod Iupac
 pub mod Calls
 pub mod Overwriting
+pub mod Answers
 pub mod Inside

@@ -1,5 +1,4 @@
 pub mod Over
-pub mod Entries
 pub mod Records
 pub mod OneRecord
 pub mod Writing

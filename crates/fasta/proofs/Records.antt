@@ -10,7 +10,9 @@ use borrow.Author.Tests.{leb-true}
 use lib.Dec.{leb}
 use lib.ListN.{length, getD, take, drop, length-append, length-take, length-drop}
 use Rattle.lemmas.proofs.Tests.{both}
-use Rattle.graph.specs.Fasta.{recordOf, records, within}
+use Rattle.graph.specs.Entries.{listed, within}
+use Rattle.graph.specs.Fasta.{recordOf, recordsOf}
+use Rattle.graph.proofs.Entries.{labelAt, listed-next}
 use Rattle.fasta.specs.Sizes.{sizeOf}
 
 -- The record of one label.
@@ -35,26 +37,18 @@ sizes-le (suc i) zero lengths h = absurd (not-suc-le-zero h)
 sizes-le (suc i) (suc count) [] h = omega arith
 sizes-le (suc i) (suc count) (n ∷ lengths) h = omega (arith, sizes-le i count lengths (le-of-suc-le-suc h))
 
-module _ (labels : List ℕ) where
-  -- The label of an entry.
-  abbrev pub labelAt : List ℕ → List ℕ → ℕ → List ℕ
-  labelAt starts lengths i = take (getD lengths i 0) (drop (getD starts i 0) labels)
+-- One label more is one record more.
+records-last : (ls : List (List ℕ)) (l : List ℕ) → recordsOf (ls ++ (l ∷ [])) ≡ recordsOf ls ++ recordOf l
+unfolding recordsOf
+records-last [] l = append-nil (recordOf l)
+records-last (m ∷ ls) l = ap (λ (text : List ℕ). recordOf m ++ text) (records-last ls l) ∙ sym (append-assoc (recordOf m) (recordsOf ls) (recordOf l))
 
-  -- One record more.
+module _ (labels : List ℕ) where
+  -- One entry more is one record more.
   pub records-next : (i : ℕ) (starts lengths : List ℕ) → i < length starts → i < length lengths
-      → records labels (i + 1) starts lengths ≡ records labels i starts lengths ++ recordOf (labelAt starts lengths i)
-  unfolding records
-  records-next i starts lengths hs hl = ap (λ (k : ℕ). records labels k starts lengths) (add-one i) ∙ go i starts lengths hs hl
-    where
-      go : (i : ℕ) (starts lengths : List ℕ) → i < length starts → i < length lengths
-          → records labels (suc i) starts lengths ≡ records labels i starts lengths ++ recordOf (labelAt starts lengths i)
-      go i [] lengths hs hl = absurd (not-suc-le-zero hs)
-      go i (s ∷ starts) [] hs hl = absurd (not-suc-le-zero hl)
-      go zero (s ∷ starts) (n ∷ lengths) hs hl = append-nil (recordOf (take n (drop s labels)))
-      go (suc i) (s ∷ starts) (n ∷ lengths) hs hl =
-          let first = recordOf (take n (drop s labels)) in
-          ap (λ (l : List ℕ). first ++ l) (go i starts lengths (le-of-suc-le-suc hs) (le-of-suc-le-suc hl))
-          ∙ sym (append-assoc first (records labels i starts lengths) (recordOf (labelAt starts lengths i)))
+      → recordsOf (listed (i + 1) labels starts lengths) ≡ recordsOf (listed i labels starts lengths) ++ recordOf (labelAt labels starts lengths i)
+  records-next i starts lengths hs hl =
+      ap recordsOf (listed-next labels i starts lengths hs hl) ∙ records-last (listed i labels starts lengths) (labelAt labels starts lengths i)
 
   -- The label of an entry that lies within the labels.
   pub length-label : (s n : ℕ) → s + n ≤ length labels → length (take n (drop s labels)) ≡ n
@@ -62,8 +56,8 @@ module _ (labels : List ℕ) where
 
   -- Where the entries lie within the labels, the lengths tell the size.
   pub records-size : (count : ℕ) (starts lengths : List ℕ) → within labels count starts lengths ≡ true
-      → length (records labels count starts lengths) ≡ sizeOf count lengths
-  unfolding records sizeOf within
+      → length (recordsOf (listed count labels starts lengths)) ≡ sizeOf count lengths
+  unfolding recordsOf listed sizeOf within
   records-size zero starts lengths w = refl
   records-size (suc count) [] lengths w = absurd (false≢true w)
   records-size (suc count) (s ∷ starts) [] w = absurd (false≢true w)
@@ -72,7 +66,7 @@ module _ (labels : List ℕ) where
       let label = take n (drop s labels) in
       omega (
         arith,
-        length-append (recordOf label) (records labels count starts lengths),
+        length-append (recordOf label) (recordsOf (listed count labels starts lengths)),
         length-record label,
         length-label s n (leb-true (s + n) (length labels) (b .0)),
         records-size count starts lengths (b .1),

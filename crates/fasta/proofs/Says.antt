@@ -8,7 +8,8 @@ use borrow.Author.Tests.{lt-ltb, le-ltb}
 use lib.ListN.{length}
 use Rattle.dna.specs.Text.{over}
 use Rattle.dna.specs.Answer.{Filled}
-use Rattle.graph.specs.Fasta.{records, within, fasta}
+use Rattle.graph.specs.Entries.{listed, within}
+use Rattle.graph.specs.Fasta.{recordsOf, fasta}
 use Rattle.fasta.specs.Sizes.{sizeOf}
 use Rattle.fasta.specs.Says.{fastaAnswer, Lists}
 use Rattle.fasta.proofs.Records.{records-size}
@@ -40,14 +41,14 @@ module _ (labels starts lengths : List ℕ) (count : ℕ) (slice : List ℕ) whe
     pub lists-none : length slice < sizeOf count lengths → Lists NoRoom slice (fasta labels starts lengths count slice)
     unfolding fasta
     lists-none h =
-        let l : length slice < length (records labels count starts lengths) = rw (records-size labels count starts lengths w) h in
-        rw (w, lt-ltb (length slice) (length (records labels count starts lengths)) l) (record { answer = refl; slice = refl })
+        let l : length slice < length (recordsOf (listed count labels starts lengths)) = rw (records-size labels count starts lengths w) h in
+        rw (w, lt-ltb (length slice) (length (recordsOf (listed count labels starts lengths))) l) (record { answer = refl; slice = refl })
 
     -- It is written whole.
     pub lists-all : (n : ℕ) (out : List ℕ) → sizeOf count lengths ≤ length slice → n ≡ sizeOf count lengths
-        → out ≡ over (records labels count starts lengths) slice → Lists (Written n) out (fasta labels starts lengths count slice)
+        → out ≡ over (recordsOf (listed count labels starts lengths)) slice → Lists (Written n) out (fasta labels starts lengths count slice)
     unfolding fasta
     lists-all n out h e o =
-        let s : length (records labels count starts lengths) ≡ sizeOf count lengths = records-size labels count starts lengths w in
-        let l : length (records labels count starts lengths) ≤ length slice = rw s h in
-        rw (w, le-ltb (length slice) (length (records labels count starts lengths)) l) (record { answer = rw (e, s); slice = o })
+        let s : length (recordsOf (listed count labels starts lengths)) ≡ sizeOf count lengths = records-size labels count starts lengths w in
+        let l : length (recordsOf (listed count labels starts lengths)) ≤ length slice = rw s h in
+        rw (w, le-ltb (length slice) (length (recordsOf (listed count labels starts lengths))) l) (record { answer = rw (e, s); slice = o })

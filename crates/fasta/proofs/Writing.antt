@@ -7,11 +7,12 @@ use native.Mathlib.Omega.{arith}
 use borrow.Rule.Slice.PartMut.{midOf, putMid}
 use lib.ListN.{length, getD, take, drop, length-append}
 use Rattle.dna.specs.Text.{over}
-use Rattle.graph.specs.Fasta.{recordOf, records, within}
+use Rattle.graph.specs.Entries.{listed, within}
+use Rattle.graph.specs.Fasta.{recordOf, recordsOf}
 use Rattle.fasta.specs.Sizes.{sizeOf}
 use Rattle.dna.proofs.Overwriting.{length-over}
 use Rattle.fasta.proofs.Over.{over-rest}
-use Rattle.fasta.proofs.Entries.{within-long, within-at, within-all}
+use Rattle.graph.proofs.Entries.{within-long, within-at, within-all}
 use Rattle.fasta.proofs.Records.{length-record, length-label, sizes-next, sizes-le, records-next, records-size}
 
 -- The slice has the records of the first i entries, and at is the place behind them.
@@ -21,12 +22,12 @@ pub record Listed (labels starts lengths : List ℕ) (count : ℕ) (slice₀ sli
   pub room : sizeOf count lengths ≤ length slice₀
   pub passed : i ≤ count
   pub place : (at ≡ sizeOf i lengths) × (at ≤ length slice₀)
-  pub cells : slice ≡ over (records labels i starts lengths) slice₀
+  pub cells : slice ≡ over (recordsOf (listed i labels starts lengths)) slice₀
   pub long : length slice ≡ length slice₀
 
 pub listed-none : (labels starts lengths : List ℕ) (count : ℕ) (slice₀ : List ℕ) → within labels count starts lengths ≡ true
     → sizeOf count lengths ≤ length slice₀ → Listed labels starts lengths count slice₀ slice₀ 0 0
-unfolding sizeOf records
+unfolding sizeOf listed recordsOf
 listed-none labels starts lengths count slice₀ w r =
     record {
       inside = w;
@@ -41,7 +42,7 @@ listed-none labels starts lengths count slice₀ w r =
 module _ {labels starts lengths : List ℕ} {count : ℕ} {slice₀ slice : List ℕ} {at i : ℕ}
     (l : Listed labels starts lengths count slice₀ slice at i) where
   -- The text so far ends at the place.
-  so-far : length (records labels i starts lengths) ≡ at
+  so-far : length (recordsOf (listed i labels starts lengths)) ≡ at
   so-far =
       records-size labels i starts lengths
       (within-all labels i starts lengths (omega (arith, l .there .0, l .passed)) (omega (arith, l .there .1, l .passed))
@@ -49,7 +50,7 @@ module _ {labels starts lengths : List ℕ} {count : ℕ} {slice₀ slice : List
       ∙ sym (l .place .0)
 
   -- All of them.
-  pub listed-all : count ≤ i → (at ≡ sizeOf count lengths) × (slice ≡ over (records labels count starts lengths) slice₀)
+  pub listed-all : count ≤ i → (at ≡ sizeOf count lengths) × (slice ≡ over (recordsOf (listed count labels starts lengths)) slice₀)
   listed-all h = let e : count ≡ i = omega (arith, l .passed) in rw e (l .place .0, l .cells)
 
   -- The next entry lies within the labels, and its record within the slice.
@@ -74,11 +75,11 @@ module _ {labels starts lengths : List ℕ} {count : ℕ} {slice₀ slice : List
   listed-more h start end size part es en r p =
       let label = take (end - start) (drop start labels) in
       let n : length label ≡ getD lengths i 0 = length-label labels start (end - start) (omega (arith, next-fits h .0)) ∙ en in
-      let c : putMid at (length slice - at) slice part ≡ over (records labels i starts lengths ++ recordOf label) slice₀ =
-      over-rest (records labels i starts lengths) (recordOf label) slice₀ slice part at (sym so-far) (omega (arith, so-far, l .place .1)) (l .cells)
+      let c : putMid at (length slice - at) slice part ≡ over (recordsOf (listed i labels starts lengths) ++ recordOf label) slice₀ =
+      over-rest (recordsOf (listed i labels starts lengths)) (recordOf label) slice₀ slice part at (sym so-far) (omega (arith, so-far, l .place .1)) (l .cells)
       p in
-      let m : length (records labels i starts lengths ++ recordOf label) ≤ length slice₀ =
-      omega (arith, length-append (records labels i starts lengths) (recordOf label), length-record label, so-far, l .long, next-fits h .1) in
+      let m : length (recordsOf (listed i labels starts lengths) ++ recordOf label) ≤ length slice₀ =
+      omega (arith, length-append (recordsOf (listed i labels starts lengths)) (recordOf label), length-record label, so-far, l .long, next-fits h .1) in
       record {
         inside = l .inside;
         there = l .there;
@@ -86,5 +87,5 @@ module _ {labels starts lengths : List ℕ} {count : ℕ} {slice₀ slice : List
         passed = omega arith;
         place = (omega (arith, l .place .0, sizes-next i lengths (omega (arith, l .there .1))), omega (arith, l .long, next-fits h .1));
         cells = c ∙ rw (records-next labels i starts lengths (omega (arith, l .there .0)) (omega (arith, l .there .1)), en, es);
-        long = ap length c ∙ length-over (records labels i starts lengths ++ recordOf label) slice₀ m;
+        long = ap length c ∙ length-over (recordsOf (listed i labels starts lengths) ++ recordOf label) slice₀ m;
       }

@@ -5,7 +5,8 @@ ghost use Prim.Native.Nat.{_+_, _^_, _≤_, _<_};
 ghost use lib.Dec.{leb};
 ghost use lib.ListN.{length};
 ghost use Rattle.dna.specs.Text.{over};
-ghost use Rattle.graph.specs.Fasta.{recordOf, records, within, fasta};
+ghost use Rattle.graph.specs.Entries.{listed, within};
+ghost use Rattle.graph.specs.Fasta.{recordOf, recordsOf, fasta};
 ghost use Rattle.fasta.specs.Sizes.{sizeOf};
 ghost use Rattle.fasta.specs.Says.{Lists};
 use dna::copy;
@@ -25,7 +26,7 @@ fn wide(x: u32) -> usize
 }
 
 // Each of the first count entries is there and lies within the labels.
-fn lie_within(labels: &[u8], starts: &[u32], lengths: &[u32], count: usize) -> bool
+pub fn lie_within(labels: &[u8], starts: &[u32], lengths: &[u32], count: usize) -> bool
     ensures { λ r. ⌜ r ≡ within (now (labels .entry)) count (now (starts .entry)) (now (lengths .entry)) ⌝ }
 {
     if starts.len() < count {
@@ -85,7 +86,7 @@ fn write_records(
     out: &mut [u8],
 ) -> usize
     requires { ⌜ (within (now labels) count (now starts) (now lengths) ≡ true) × (sizeOf count (now lengths) ≤ length (now out)) ⌝ }
-    ensures { λ r. ⌜ (r ≡ sizeOf count (now (lengths .entry))) × (now (out .exit) ≡ over (records (now (labels .entry)) count (now (starts .entry)) (now (lengths .entry))) (now (out .entry))) ⌝ }
+    ensures { λ r. ⌜ (r ≡ sizeOf count (now (lengths .entry))) × (now (out .exit) ≡ over (recordsOf (listed count (now (labels .entry)) (now (starts .entry)) (now (lengths .entry)))) (now (out .entry))) ⌝ }
 {
     let mut at = 0;
     let mut i = 0;

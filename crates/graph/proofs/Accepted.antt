@@ -1,5 +1,5 @@
 -- What an answer of adding says of the label and of the two slices: one that is no refusal, and a refusal. Assumes nothing.
-use mathlib.Core.Path.{_≡_, refl, sym, ap, _∙_}
+use mathlib.Core.Path.{_≡_, refl, sym, ap, subst, _∙_}
 use mathlib.Core.Bool.{true, not}
 use mathlib.Core.Logic.{inl, inr}
 use mathlib.Core.List.{List, [], _∷_}
@@ -8,7 +8,7 @@ use native.Mathlib.Omega.{arith}
 use lib.Dec.{ltb, leb}
 use lib.ListN.{length, drop, length-append, length-take, length-drop}
 use lib.Seq.{take-at, drop-at}
-use borrow.Author.Tests.{ltb-true, ltb-false, leb-true, not-false}
+use borrow.Author.Tests.{ltb-true, ltb-false, leb-true, le-leb, not-false}
 use Rattle.lemmas.proofs.Tests.{choose, both}
 use Rattle.dna.specs.Letters.{firstBad}
 use Rattle.dna.specs.Answer.{Answer, gives, refuses}
@@ -139,6 +139,17 @@ module _ (κ : Kind) (rule : Rule) (K n : ℕ) (keys counts label : List ℕ) wh
       let long = ltb-false 4096 (length label) c in
       choose (Says e) (ltb (length label) K) (λ d. short-says e ok fits long (ltb-true (length label) K d))
       (λ d. bases-says e ok fits long (firstBad 0 label) refl))))
+
+  -- The table that such a label leaves is fit.
+  pub accepted-fit : (e : Edges) → addLabel κ rule K n keys counts label .answer ≡ gives e
+      → let r = addLabel κ rule K n keys counts label in fit K (e .stored) (r .keys) (r .counts) ≡ true
+  accepted-fit e h =
+      let r = addLabel κ rule K n keys counts label in
+      let a = accepted e h in
+      let c : e .stored ≤ capacity (r .keys) (r .counts) = rw (a .keys-length, a .counts-length) (a .room) in
+      let after : Sound K (tableOf (e .stored) (r .keys) (r .counts)) =
+      subst (Sound K) (sym (a .table)) (added-sound κ rule K label (tableOf n keys counts) (a .reads) (fit-sound K n keys counts (a .fits))) in
+      rw (le-leb (e .stored) (capacity (r .keys) (r .counts)) c) (after .fits)
 
   -- A refusal changes neither slice.
   pub record Same (r : Added) : Type 0 where

@@ -7,3 +7,5 @@ pub mod Sight
 pub mod Keys
 pub mod Adding
 pub mod Accepted
+pub mod Entries
+pub mod Several

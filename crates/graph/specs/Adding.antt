@@ -37,6 +37,11 @@ pub record Added : Type 0 where
   pub keys : List ℕ
   pub counts : List ℕ
 
+-- The number stored after a label: the one answered, or on a refusal the one before.
+abbrev pub storedAfter : ℕ → Answer Edges → ℕ
+storedAfter n (gives e) = e .stored
+storedAfter n (refuses r vs) = n
+
 module _ (κ : Kind) (rule : Rule) (K n : ℕ) (keys counts label : List ℕ) where
   -- An answer that changes nothing.
   abbrev pub unchanged : Answer Edges → Added

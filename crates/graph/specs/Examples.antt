@@ -13,7 +13,8 @@ use Rattle.kmer.specs.Calls.{packCall, reverseCall, openCalls}
 use Rattle.state.specs.Counted.{fourBits, openCounted}
 use Rattle.graph.specs.Table.{keysOf, openTable}
 use Rattle.graph.specs.Sightings.{sameCanonical, openSightings}
-use Rattle.graph.specs.Adding.{Edges, addLabel, openAdding}
+use Rattle.graph.specs.Adding.{Edges, addLabel, storedAfter, openAdding}
+use Rattle.graph.specs.Entries.{openEntries}
 use Rattle.graph.specs.Walks.{openWalks}
 use Rattle.graph.specs.Labels.{openLabels}
 use Rattle.graph.specs.Contraction.{Totals, contract, openContraction}
@@ -41,17 +42,13 @@ pub record State : Type 0 where
 abbrev pub empty : State
 empty = record { stored = 0; keys = replicate 16 0; counts = replicate 8 0; answers = [] }
 
-abbrev pub storedAfter : Answer Edges → ℕ → ℕ
-storedAfter (gives e) n = e .stored
-storedAfter (refuses r vs) n = n
-
 abbrev pub addAll : ℕ → State → List String → State
 addAll K t [] = t
 addAll K t (l ∷ ls) =
     let a = addLabel fourBits sameCanonical K (t .stored) (t .keys) (t .counts) (bytes l) in
     addAll K
     (record {
-      stored = storedAfter (a .answer) (t .stored);
+      stored = storedAfter (t .stored) (a .answer);
       keys = a .keys;
       counts = a .counts;
       answers = t .answers ++ (a .answer ∷ []);
@@ -67,8 +64,8 @@ bytesIn (gives n) = n
 bytesIn (refuses r vs) = 0
 
 -- The FASTA text of a table at a cutoff.
-abbrev pub listed : ℕ → State → ℕ → List ℕ
-listed K t cutoff =
+abbrev pub fastaAt : ℕ → State → ℕ → List ℕ
+fastaAt K t cutoff =
     let c = contract fourBits K cutoff (t .stored) (t .keys) (t .counts) (replicate 40 0) (replicate 8 0) (replicate 8 0) (replicate 8 7) in
     let f = fasta (c .labels) (c .starts) (c .lengths) (labelsIn (c .answer)) (replicate 60 0) in
     take (bytesIn (f .answer)) (f .slice)
@@ -76,7 +73,7 @@ listed K t cutoff =
 abbrev pub resultOf : Example → Result
 resultOf (grow K labels cutoffs) =
     let t = addAll K empty labels in
-    grown (t .answers) (keysOf (t .stored) (t .keys)) (take (t .stored) (t .counts)) (map (listed K t) cutoffs)
+    grown (t .answers) (keysOf (t .stored) (t .keys)) (take (t .stored) (t .counts)) (map (fastaAt K t) cutoffs)
 resultOf (turn K s) = turned (packCall K (bytes s)) (reverseCall K (packed (bytes s)))
 
 -- Edges and number stored.
@@ -143,5 +140,5 @@ examples =
     ∷ []
 
 pub proved : map (λ (e : Example × Result). resultOf (e .0)) examples ≡ map (λ (e : Example × Result). e .1) examples
-unfolding openText openLetters openOrder openKmer openCalls openCounted openTable openSightings openAdding openWalks openLabels openContraction openFasta
+unfolding openText openLetters openOrder openKmer openCalls openCounted openTable openSightings openAdding openEntries openWalks openLabels openContraction openFasta
 proved = refl

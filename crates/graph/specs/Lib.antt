@@ -1,9 +1,12 @@
 pub mod Table
 pub mod Sightings
 pub mod Adding
+pub mod Entries
+pub mod Several
 pub mod Walks
 pub mod Labels
 pub mod Contraction
 pub mod Fasta
 pub mod Examples
 pub mod Lent
+pub mod SeveralExamples

@@ -52,14 +52,6 @@ pub forward-lt : (K x b : ℕ) → forward K x b < 4 ^ K
 unfolding forward
 forward-lt K x b = mod-lt (4 * x + b) (four-pos K)
 
-pub backward-lt : (K x b : ℕ) → 1 ≤ K → x < 4 ^ K → b < 4 → backward K x b < 4 ^ K
-unfolding backward
-backward-lt zero x b one h l = absurd (omega arith)
-backward-lt (suc k) x b one h l =
-    let e : suc k - 1 ≡ k = omega arith in
-    let q : x / 4 < 4 ^ k = omega (arith, pow-succ' 4 k) in
-    rw (e, pow-succ' 4 k) (digits-lt {m = 4} l q)
-
 -- Appending on one strand is putting the complement in front on the other.
 pub rc-forward : (K x b : ℕ) → 1 ≤ K → b < 4 → rc K (forward K x b) ≡ backward K (rc K x) (3 - b)
 unfolding rc forward backward

@@ -5,6 +5,7 @@ pub mod Digits
 pub mod Lines
 pub mod Unread
 pub mod Outcomes
+pub mod Indexing
 pub mod TakingLabels
 pub mod Listing
 pub mod Whole

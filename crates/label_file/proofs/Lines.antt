@@ -12,12 +12,12 @@ use Rattle.dna.specs.Answer.{gives, refuses, fill}
 use Rattle.dna.specs.Calls.{Writes}
 use Rattle.dna.specs.declared.Written.{Written}
 use Rattle.dna.specs.declared.Written.the-variants as written
+use Rattle.dna.proofs.Answers.{ungiven}
 use Rattle.label_file.specs.Output.{decimal, refusal}
 use Rattle.label_file.specs.Says.{Fills, Prefixes}
 use Rattle.label_file.specs.declared.ListAnswer.{ListAnswer}
 use Rattle.label_file.specs.declared.ListAnswer.the-variants.{Printed, NoRoom}
 use Rattle.label_file.proofs.Digits.{drop-set}
-use Rattle.label_file.proofs.Outcomes.{ungiven}
 
 -- `second` and `third` are the line with the record's number, from place i on, and with the refusal's number, from place j on.
 module _ (line second third : List ℕ) (number at i j : ℕ) (l : length line ≡ 64)

@@ -5,21 +5,23 @@ use Prim.Native.Nat.{ℕ}
 use lib.Dec.{ltb}
 use lib.ListN.{length}
 use Rattle.dna.specs.Answer.{gives, refuses, Filled, fill}
+use Rattle.dna.proofs.Answers.{ungiven}
 use Rattle.state.specs.Counted.{fourBits}
 use Rattle.graph.specs.Contraction.{contract, Contracted, Totals}
-use Rattle.graph.specs.Fasta.{records, within, fasta}
+use Rattle.graph.specs.Entries.{listed, within}
+use Rattle.graph.specs.Fasta.{recordsOf, fasta}
 use Rattle.lemmas.proofs.Tests.{choose}
 use Rattle.fasta.specs.declared.FastaAnswer.{FastaAnswer}
 use Rattle.fasta.specs.declared.FastaAnswer.the-variants.{Written}
 use Rattle.fasta.specs.Says.{fastaAnswer, Lists as ListsFasta}
 use Rattle.contraction.specs.Says.{contractAnswer, Contracts}
-use Rattle.label_file.specs.Output.{Buffers, lent, withText, withList, refusal, refused, printed, listed}
+use Rattle.label_file.specs.Output.{Buffers, lent, withText, withList, refusal, refused, printed, listedAfter}
 use Rattle.label_file.specs.Says.{Fills, Lists, outcomeOf, besides}
 use Rattle.label_file.specs.declared.ListAnswer.{ListAnswer}
 use Rattle.label_file.specs.declared.ListAnswer.the-variants.{Printed}
 use Rattle.contraction.specs.declared.ContractAnswer.{ContractAnswer}
 use Rattle.label_file.specs.declared.Outcome.the-variants.{Given, Refused}
-use Rattle.label_file.proofs.Outcomes.{ungiven, outcome-gives, outcome-refuses}
+use Rattle.label_file.proofs.Outcomes.{outcome-gives, outcome-refuses}
 
 module _ (labels starts lengths : List ℕ) (count : ℕ) (text : List ℕ) where
   -- A list that is refused leaves the text.
@@ -27,7 +29,7 @@ module _ (labels starts lengths : List ℕ) (count : ℕ) (text : List ℕ) wher
       → fasta labels starts lengths count text .slice ≡ text
   unfolding fasta
   fasta-kept r vs =
-      let all = records labels count starts lengths in
+      let all = recordsOf (listed count labels starts lengths) in
       choose (λ (f : Filled). f .answer ≡ refuses r vs → f .slice ≡ text) (within labels count starts lengths)
       (λ w. choose (λ (f : Filled). f .answer ≡ refuses r vs → f .slice ≡ text) (ltb (length text) (length all))
       (λ s h. refl) (λ s h. ungiven (length all) r vs h))
@@ -73,23 +75,23 @@ module _ (k cutoff n : ℕ) (b : Buffers) {x : ContractAnswer} {labels starts le
   -- The list of a table that was contracted.
   pub listed-list : {y : ListAnswer} {after : List ℕ} (count : ℕ) → Given count ≡ outcomeOf (λ (s : Totals). s .labels) (contractAnswer x)
       → Fills y after (printed p (b .text) (fasta labels starts lengths count (b .text)))
-      → Lists y (lent (b .keys) (b .counts) labels starts lengths marks after) (listed p b (contracted k cutoff n b))
-  unfolding listed
+      → Lists y (lent (b .keys) (b .counts) labels starts lengths marks after) (listedAfter p b (contracted k cutoff n b))
+  unfolding listedAfter
   listed-list {y} {after} count e f =
       let c = contracted k cutoff n b in
       let g = outcome-gives _ (contractAnswer x) count e in
       let h : c .answer ≡ gives (g .value) = sym (t .answer) ∙ g .is in
       let f′ : Fills y after (printed p (b .text) (fasta (c .labels) (c .starts) (c .lengths) (g .value .labels) (b .text))) =
       rw (t .labels-after, t .starts-after, t .lengths-after, g .number) at f in
-      rw (h, listed, ← after-lists after)
+      rw (h, listedAfter, ← after-lists after)
       (lists-text (withList b c) (printed p (b .text) (fasta (c .labels) (c .starts) (c .lengths) (g .value .labels) (b .text))) f′)
 
   -- One that was not.
   pub listed-refusal : {y : ListAnswer} {after : List ℕ} (r : ℕ) → outcomeOf (λ (s : Totals). s .labels) (contractAnswer x) ≡ Refused r
       → Fills y after (fill 11 (refusal r p) (b .text))
-      → Lists y (lent (b .keys) (b .counts) labels starts lengths marks after) (listed p b (contracted k cutoff n b))
-  unfolding listed
+      → Lists y (lent (b .keys) (b .counts) labels starts lengths marks after) (listedAfter p b (contracted k cutoff n b))
+  unfolding listedAfter
   listed-refusal {after = after} r e f =
       let h : contracted k cutoff n b .answer ≡ refuses r (besides (contractAnswer x)) =
       sym (t .answer) ∙ outcome-refuses _ (contractAnswer x) r e in
-      rw (h, listed, ← after-lists after) (lists-refused (withList b (contracted k cutoff n b)) r p f)
+      rw (h, listedAfter, ← after-lists after) (lists-refused (withList b (contracted k cutoff n b)) r p f)

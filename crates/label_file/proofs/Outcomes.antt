@@ -1,4 +1,4 @@
--- What an outcome says of the answer that it is of; no answer both gives and refuses. Assumes nothing.
+-- What an outcome says of the answer that it is of. Assumes nothing.
 use mathlib.Core.Path.{_≡_, refl}
 use mathlib.Core.List.{List}
 use Prim.Native.Nat.{ℕ}
@@ -12,9 +12,6 @@ pub record Gives {A : Type 0} (f : A → ℕ) (a : Answer A) (n : ℕ) : Type 0 
   pub value : A
   pub is : a ≡ gives value
   pub number : n ≡ f value
-
-pub ungiven : {P : Type 0} (n r : ℕ) (vs : List ℕ) → gives n ≡ refuses r vs → P
-ungiven n r vs e = let z : _≡_ {A = ℕ} 0 1 = cc in absurd (omega arith)
 
 never : {P : Type 0} {n r : ℕ} → Given n ≡ Refused r → P
 never e = let z : _≡_ {A = ℕ} 0 1 = cc in absurd (omega arith)

@@ -1,99 +1,77 @@
--- Labels added one by one: what is left to add gives what all give. Assumes nothing.
-use mathlib.Core.Path.{_≡_, refl, sym, ap, _∙_}
-use mathlib.Core.List.{List, _∷_}
-use Prim.Native.Nat.{ℕ, _+_, _-_, _≤_, _<_}
+-- A file's labels added by its index: what the call says of them, in records. Assumes nothing.
+use mathlib.Core.Path.{_≡_, ap}
+use mathlib.Core.List.{List}
+use Prim.Native.Nat.{ℕ, _+_, _≤_}
 use native.Mathlib.Numerals.{add-one}
 use native.Mathlib.Omega.{arith}
-use lib.ListN.{length, take, drop}
-use Rattle.dna.specs.Answer.{gives, refuses}
+use lib.ListN.{length}
 use Rattle.state.specs.Counted.{fourBits}
 use Rattle.graph.specs.Sightings.{sameCanonical}
-use Rattle.graph.specs.Adding.{addLabel, Edges}
+use Rattle.graph.specs.Adding.{Edges}
+use Rattle.graph.specs.Several.{Several, untried, addEach, addLabels}
+use Rattle.graph.proofs.Entries.{listed-few}
+use Rattle.graph.proofs.Several.{each-few}
 use Rattle.adding.specs.declared.AddAnswer.{AddAnswer}
-use Rattle.adding.specs.Says.{addAnswer, Adds}
-use Rattle.label_file.specs.LabelFile.{two, fileOf, labelsOf}
-use Rattle.label_file.specs.Output.{takeFrom}
-use Rattle.label_file.specs.Says.{Sound, outcomeOf, besides, Takes}
-use Rattle.label_file.specs.declared.Outcome.{Outcome}
+use Rattle.adding.specs.declared.LabelsAnswer.{LabelsAnswer}
+use Rattle.adding.specs.declared.LabelsAnswer.the-variants.{Tried, OutOfText}
+use Rattle.adding.specs.Says.{addAnswer, labelsSay, AddsLabels}
+use Rattle.label_file.specs.LabelFile.{fileOf, labelsOf}
+use Rattle.label_file.specs.Says.{Indexes, outcomeOf, takingOf, Takes}
 use Rattle.label_file.specs.declared.Outcome.the-variants as outcome
+use Rattle.label_file.specs.declared.Taking.{Taking}
 use Rattle.label_file.specs.declared.Taking.the-variants.{Stored, Refused}
 use Rattle.label_file.proofs.Outcomes.{outcome-gives, outcome-refuses}
-use Rattle.label_file.proofs.Unread.{Unread, Next, unread-all, unread-none, unread-next}
 
--- The vertices stored after a label, or its refusal.
-abbrev storedIn : AddAnswer → Outcome
-storedIn r = outcomeOf (λ (e : Edges). e .stored) (addAnswer r)
+module _ (k : ℕ) (file keys₀ counts₀ : List ℕ) where
+  abbrev whole : Several
+  whole = addEach fourBits sameCanonical k (untried 0 keys₀ counts₀) (labelsOf (fileOf file))
 
-module _ (K p : ℕ) (label : List ℕ) (labels : List (List ℕ)) (n : ℕ) (keys counts : List ℕ) {r : AddAnswer} {keys′ counts′ : List ℕ}
-    (a : Adds r keys′ counts′ (addLabel fourBits sameCanonical K n keys counts label)) where
-  take-more : (stored : ℕ) → outcome.Given stored ≡ storedIn r
-      → takeFrom K p (label ∷ labels) n keys counts ≡ takeFrom K (p + 1) labels stored keys′ counts′
-  unfolding takeFrom
-  take-more stored e =
-      let g = outcome-gives _ (addAnswer r) stored e in
-      let h : addLabel fourBits sameCanonical K n keys counts label .answer ≡ gives (g .value) = sym (a .answer) ∙ g .is in
-      let more : takeFrom K p (label ∷ labels) n keys counts ≡ takeFrom K (p + 1) labels (g .value .stored) keys′ counts′ =
-      rw (h, takeFrom, a .keys-after, a .counts-after, add-one p) in
-      more ∙ ap (λ (m : ℕ). takeFrom K (p + 1) labels m keys′ counts′) (sym (g .number))
+  module _ {count : ℕ} {starts lengths : List ℕ} (x : Indexes file count starts lengths) where
+    by-index : addLabels fourBits sameCanonical k 0 keys₀ counts₀ file starts lengths count ≡ whole
+    unfolding addLabels
+    by-index = rw (x .inside, x .labels)
 
-  take-ends : (number : ℕ) → storedIn r ≡ outcome.Refused number
-      → Takes (Refused number p) keys′ counts′ (takeFrom K p (label ∷ labels) n keys counts)
-  unfolding takeFrom
-  take-ends number e =
-      let h : addLabel fourBits sameCanonical K n keys counts label .answer ≡ refuses number (besides (addAnswer r)) =
-      sym (a .answer) ∙ outcome-refuses _ (addAnswer r) number e in
-      rw (h, takeFrom) (record { says = (refl, refl); keys-after = a .keys-after; counts-after = a .counts-after })
+    few : whole .labels ≤ 4096
+    few =
+        omega (
+          arith,
+          each-few fourBits sameCanonical k (untried 0 keys₀ counts₀) (labelsOf (fileOf file)),
+          ap length (x .labels),
+          listed-few count file starts lengths,
+          x .few,
+        )
 
--- The records before number i are read, and their labels added to none; n vertices are stored.
-pub record SomeTaken (file : List ℕ) (k : ℕ) (keys₀ counts₀ : List ℕ) (i at n : ℕ) (keys counts : List ℕ) : Type 0 where
-  pub rest : List (List ℕ)
-  pub unread : Unread file i at rest
-  pub all : takeFrom k 1 (labelsOf (fileOf file)) 0 keys₀ counts₀ ≡ takeFrom k i rest n keys counts
-  pub long-keys : length keys ≡ length keys₀
-  pub long-counts : length counts ≡ length counts₀
+    module _ {a : LabelsAnswer} {keys counts : List ℕ}
+        (t : AddsLabels 0 a keys counts (addLabels fourBits sameCanonical k 0 keys₀ counts₀ file starts lengths count)) where
+      same : AddsLabels 0 a keys counts whole
+      same = rw by-index at t
 
-pub taken-none : (file : List ℕ) (k : ℕ) (keys counts : List ℕ) → Sound file → SomeTaken file k keys counts 1 7 0 keys counts
-taken-none file k keys counts s =
-    record { rest = labelsOf (fileOf file); unread = unread-all file s; all = refl; long-keys = refl; long-counts = refl }
+      -- The index itself is refused.
+      pub takes-none : a ≡ OutOfText → Takes (Refused 12 1) keys counts whole
+      takes-none e =
+          let s : labelsSay 0 OutOfText whole = rw e at (same .says) in
+          record { says = rw (← s .0, ← s .1, ← s .2); keys-after = same .keys-after; counts-after = same .counts-after }
 
-module _ {file : List ℕ} {k : ℕ} {keys₀ counts₀ : List ℕ} {i at n : ℕ} {keys counts : List ℕ}
-    (t : SomeTaken file k keys₀ counts₀ i at n keys counts) where
-  pub taken-all : length file ≤ at → Takes (Stored n i) keys counts (takeFrom k 1 (labelsOf (fileOf file)) 0 keys₀ counts₀)
-  unfolding takeFrom
-  taken-all h =
-      rw (t .all, unread-none (t .unread) h) (record { says = (refl, refl); keys-after = refl; counts-after = refl })
+      module _ {m stored : ℕ} {last : AddAnswer} (e : a ≡ Tried m stored last) where
+        said : labelsSay 0 (Tried m stored last) whole
+        said = rw e at (same .says)
 
-  -- A label in the part of the file that was lent for it.
-  module _ (left : at < length file) (size : ℕ) (s : size ≡ two file (at + 2)) where
-    next : Next file i at size (t .rest)
-    next = unread-next (t .unread) left size s
+        pub taken-few : m ≤ 4096
+        taken-few = omega (arith, few, said .0)
 
-    pub room : at + 4 + size ≤ length file
-    room = next .room
+        takes : (r : Taking) → r ≡ takingOf (addAnswer last) stored (m + 1) → Takes r keys counts whole
+        takes r q = record {
+          says = rw (← said .0, ← said .1, ← said .2, ← add-one m) q;
+          keys-after = same .keys-after;
+          counts-after = same .counts-after;
+        }
 
-    abbrev pub lentLabel : List ℕ
-    lentLabel = take (at + 4 + size - (at + 4)) (drop (at + 4) file)
+        -- None is refused.
+        pub takes-stored : (n : ℕ) → outcome.Given n ≡ outcomeOf (λ (d : Edges). d .stored) (addAnswer last)
+            → Takes (Stored stored (m + 1)) keys counts whole
+        takes-stored n g = takes (Stored stored (m + 1)) (rw (outcome-gives _ (addAnswer last) n g .is))
 
-    whole : takeFrom k 1 (labelsOf (fileOf file)) 0 keys₀ counts₀ ≡ takeFrom k i (lentLabel ∷ next .behind) n keys counts
-    whole =
-        let e : at + 4 + size - (at + 4) ≡ size = omega arith in
-        let split : t .rest ≡ lentLabel ∷ next .behind = rw e (next .split) in
-        t .all ∙ ap (λ (labels : List (List ℕ)). takeFrom k i labels n keys counts) split
-
-    module _ {r : AddAnswer} {keys′ counts′ : List ℕ}
-        (a : Adds r keys′ counts′ (addLabel fourBits sameCanonical k n keys counts lentLabel)) where
-      -- It is added.
-      pub taken-next : (stored : ℕ) → outcome.Given stored ≡ storedIn r → length keys′ ≡ length keys → length counts′ ≡ length counts
-          → SomeTaken file k keys₀ counts₀ (i + 1) (at + 4 + size) stored keys′ counts′
-      taken-next stored e lk lc = record {
-        rest = next .behind;
-        unread = next .unread;
-        all = whole ∙ take-more k i lentLabel (next .behind) n keys counts a stored e;
-        long-keys = lk ∙ t .long-keys;
-        long-counts = lc ∙ t .long-counts;
-      }
-
-      -- It is refused.
-      pub taken-ends : (number : ℕ) → storedIn r ≡ outcome.Refused number
-          → Takes (Refused number i) keys′ counts′ (takeFrom k 1 (labelsOf (fileOf file)) 0 keys₀ counts₀)
-      taken-ends number e = rw whole (take-ends k i lentLabel (next .behind) n keys counts a number e)
+        -- One is refused.
+        pub takes-refused : (number : ℕ) → outcomeOf (λ (d : Edges). d .stored) (addAnswer last) ≡ outcome.Refused number
+            → Takes (Refused number (m + 1)) keys counts whole
+        takes-refused number g = takes (Refused number (m + 1)) (rw (outcome-refuses _ (addAnswer last) number g))

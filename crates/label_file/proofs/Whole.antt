@@ -3,15 +3,20 @@
 use mathlib.Core.Path.{_≡_}
 use mathlib.Core.Bool.{false, and-false}
 use mathlib.Core.List.{List}
-use Prim.Native.Nat.{ℕ, _+_, _*_, _≤_, _<_}
+use Prim.Native.Nat.{ℕ, suc, _+_, _*_, _≤_, _<_}
+use native.Mathlib.Omega.{arith}
 use borrow.Author.Tests.{lt-leb}
 use lib.ListN.{length}
 use Rattle.dna.specs.Answer.{fill}
+use Rattle.dna.proofs.Answers.{either}
 use Rattle.kmer.specs.Kmer.{okK}
 use Rattle.kmer.proofs.Bounds.{bounds-ok}
+use Rattle.state.specs.Counted.{fourBits}
+use Rattle.graph.specs.Sightings.{sameCanonical}
+use Rattle.graph.specs.Several.{Several, untried, addEach}
 use Rattle.label_file.specs.LabelFile.{damaged, two, kIn, fileOf, labelsOf}
-use Rattle.label_file.specs.Output.{Buffers, withTable, refusal, listed, takeFrom, listAll, output}
-use Rattle.label_file.specs.Says.{Fills, Lists, Sound, Takes, takingSays, formSays}
+use Rattle.label_file.specs.Output.{Buffers, Left, withTable, refusal, listedAfter, listAll, output}
+use Rattle.label_file.specs.Says.{Fills, Lists, Sound, Takes, formSays}
 use Rattle.label_file.specs.declared.ListAnswer.{ListAnswer}
 use Rattle.label_file.specs.declared.Checked.{Checked}
 use Rattle.label_file.specs.declared.Checked.the-variants as checked
@@ -20,25 +25,40 @@ use Rattle.label_file.specs.declared.Taking.the-variants.{Stored, Refuse
 use Rattle.label_file.proofs.Unread.{unread-all}
 use Rattle.label_file.proofs.Listing.{withAfter, contracted, lists-refused}
 
-module _ (k cutoff : ℕ) (all : List (List ℕ)) (b : Buffers) {x : Taking} {keys counts : List ℕ}
-    (t : Takes x keys counts (takeFrom k 1 all 0 (b .keys) (b .counts))) {y : ListAnswer} where
-  -- The labels are added.
-  pub all-listed : {b′ : Buffers} (n p : ℕ) → x ≡ Stored n p
-      → Lists y b′ (listed p (withTable b keys counts) (contracted k cutoff n (withTable b keys counts)))
-      → Lists y b′ (listAll k cutoff all b)
-  unfolding listAll
-  all-listed n p e l =
-      let s : takingSays (Stored n p) (takeFrom k 1 all 0 (b .keys) (b .counts)) = rw e at (t .says) in
-      rw (s .0, listAll, s .1) (rw (t .keys-after, t .counts-after) at l)
+not-both : {P : Type 0} {x : Taking} {n p r q : ℕ} → x ≡ Stored n p → x ≡ Refused r q → P
+not-both e f = let z : _≡_ {A = ℕ} 0 1 = cc in absurd (omega arith)
 
-  -- One of them is refused.
-  pub all-refused : {after : List ℕ} (r p : ℕ) → x ≡ Refused r p → Fills y after (fill 11 (refusal r p) (b .text))
-      → Lists y (withAfter (withTable b keys counts) after) (listAll k cutoff all b)
-  unfolding listAll
-  all-refused r p e f =
-      let s : takingSays (Refused r p) (takeFrom k 1 all 0 (b .keys) (b .counts)) = rw e at (t .says) in
-      let a = takeFrom k 1 all 0 (b .keys) (b .counts) in
-      rw (s .0, listAll, s .1, t .keys-after, t .counts-after) (lists-refused (withTable b (a .keys) (a .counts)) r p f)
+module _ (k cutoff : ℕ) (all : List (List ℕ)) (b : Buffers) where
+  abbrev added : Several
+  added = addEach fourBits sameCanonical k (untried 0 (b .keys) (b .counts)) all
+
+  module _ {x : Taking} {keys counts : List ℕ} (t : Takes x keys counts added) {y : ListAnswer} where
+    -- The labels are added.
+    pub all-listed : {b′ : Buffers} (n p : ℕ) → x ≡ Stored n p
+        → Lists y b′ (listedAfter p (withTable b keys counts) (contracted k cutoff n (withTable b keys counts)))
+        → Lists y b′ (listAll k cutoff all b)
+    unfolding listAll
+    all-listed {b′} n p e l =
+        either (λ (z : Left). Lists y b′ z) (added .answer)
+        (λ d q.
+        let s : x ≡ Stored (added .stored) (suc (added .labels)) = rw q at (t .says) in
+        let g : n ≡ added .stored = cc in
+        let h : p ≡ suc (added .labels) = cc in
+        rw (g, h, t .keys-after, t .counts-after) at l)
+        (λ r vs q. not-both e (rw q at (t .says)))
+
+    -- One of them is refused.
+    pub all-refused : {after : List ℕ} (r p : ℕ) → x ≡ Refused r p → Fills y after (fill 11 (refusal r p) (b .text))
+        → Lists y (withAfter (withTable b keys counts) after) (listAll k cutoff all b)
+    unfolding listAll
+    all-refused {after} r p e f =
+        either (λ (z : Left). Lists y (withAfter (withTable b keys counts) after) z) (added .answer)
+        (λ d q. not-both (rw q at (t .says)) e)
+        (λ r′ vs q.
+        let s : x ≡ Refused r′ (suc (added .labels)) = rw q at (t .says) in
+        let g : r ≡ r′ = cc in
+        let h : p ≡ suc (added .labels) = cc in
+        rw (← g, ← h, t .keys-after, t .counts-after) (lists-refused (withTable b (added .keys) (added .counts)) r p f))
 
 module _ (file : List ℕ) (b : Buffers) {y : ListAnswer} where
   -- The form is wrong.

@@ -2,22 +2,21 @@
 use mathlib.Core.Path.{_≡_}
 use mathlib.Core.Bool.{cond}
 use mathlib.Core.List.{List}
-use Prim.Native.Nat.{ℕ, _≤_}
+use Prim.Native.Nat.{ℕ, suc, _≤_}
 use lib.ListN.{length}
 use Rattle.lemmas.proofs.Tests.{choose}
-use Rattle.dna.specs.Answer.{Answer, gives, refuses, Filled}
+use Rattle.dna.specs.Answer.{gives, Filled}
 use Rattle.dna.proofs.Inside.{Inside, refused-inside, fill-inside}
+use Rattle.dna.proofs.Answers.{either}
 use Rattle.kmer.specs.Kmer.{okK}
+use Rattle.state.specs.Counted.{fourBits}
+use Rattle.graph.specs.Sightings.{sameCanonical}
+use Rattle.graph.specs.Several.{untried, addEach}
 use Rattle.graph.specs.Contraction.{Contracted}
-use Rattle.graph.specs.Fasta.{within, records, fasta}
+use Rattle.graph.specs.Entries.{listed, within}
+use Rattle.graph.specs.Fasta.{recordsOf, fasta}
 use Rattle.label_file.specs.LabelFile.{LabelFile, damaged, holds, fileOf}
-use Rattle.label_file.specs.Output.{Buffers, Left, withList, refusal, refused, printed, listed, takeFrom, listAll, output}
-
--- What holds of each arm holds of the chosen one.
-either : {A B : Type 0} (P : B → Type 0) (a : Answer A) {f : A → B} {g : ℕ → List ℕ → B}
-    → ((x : A) → P (f x)) → ((r : ℕ) (vs : List ℕ) → P (g r vs)) → P (elim a [ gives x ↦ f x | refuses r vs ↦ g r vs ])
-either P (gives x) p q = p x
-either P (refuses r vs) p q = q r vs
+use Rattle.label_file.specs.Output.{Buffers, Left, withList, refusal, refused, printed, listedAfter, listAll, output}
 
 abbrev Within : Left → Type 0
 Within l = (n : ℕ) → l .answer ≡ gives n → n ≤ length (l .buffers .text)
@@ -25,29 +24,29 @@ Within l = (n : ℕ) → l .answer ≡ gives n → n ≤ length (l .buffers .tex
 fasta-inside : (labels starts lengths : List ℕ) (count : ℕ) (text : List ℕ) → Inside (fasta labels starts lengths count text)
 unfolding fasta
 fasta-inside labels starts lengths count text =
-    choose Inside (within labels count starts lengths) (λ _. fill-inside 11 (records labels count starts lengths) text)
+    choose Inside (within labels count starts lengths) (λ _. fill-inside 11 (recordsOf (listed count labels starts lengths)) text)
     (λ _. refused-inside 12 _ text)
 
 printed-inside : (p : ℕ) (text : List ℕ) (f : Filled) → Inside f → Inside (printed p text f)
 unfolding printed
-printed-inside p text f i = either Inside (f .answer) {f = λ n. f} (λ n. i) (λ r vs. fill-inside 11 (refusal r p) text)
+printed-inside p text f i = either Inside (f .answer) {f = λ n. f} (λ n _. i) (λ r vs _. fill-inside 11 (refusal r p) text)
 
 refused-within : (r p : ℕ) (b : Buffers) → Within (refused r p b)
 unfolding refused
 refused-within r p b = fill-inside 11 (refusal r p) (b .text)
 
-listed-within : (p : ℕ) (b : Buffers) (c : Contracted) → Within (listed p b c)
-unfolding listed
+listed-within : (p : ℕ) (b : Buffers) (c : Contracted) → Within (listedAfter p b c)
+unfolding listedAfter
 listed-within p b c =
     either Within (c .answer)
-    (λ t. printed-inside p (b .text) _ (fasta-inside (c .labels) (c .starts) (c .lengths) (t .labels) (b .text)))
-    (λ r vs. refused-within r p (withList b c))
+    (λ t _. printed-inside p (b .text) _ (fasta-inside (c .labels) (c .starts) (c .lengths) (t .labels) (b .text)))
+    (λ r vs _. refused-within r p (withList b c))
 
 list-all-within : (K cutoff : ℕ) (labels : List (List ℕ)) (b : Buffers) → Within (listAll K cutoff labels b)
 unfolding listAll
 list-all-within K cutoff labels b =
-    let t = takeFrom K 1 labels 0 (b .keys) (b .counts) in
-    either Within (t .answer) (λ n. listed-within (t .next) _ _) (λ r vs. refused-within r (t .next) _)
+    let t = addEach fourBits sameCanonical K (untried 0 (b .keys) (b .counts)) labels in
+    either Within (t .answer) (λ e _. listed-within (suc (t .labels)) _ _) (λ r vs _. refused-within r (suc (t .labels)) _)
 
 of-file : (b : Buffers) (f : LabelFile) → Within (elim f [
   | damaged i ↦ refused 13 i b

@@ -13,6 +13,8 @@ use Rattle.state.specs.Counted.{openCounted}
 use Rattle.graph.specs.Table.{openTable}
 use Rattle.graph.specs.Sightings.{openSightings}
 use Rattle.graph.specs.Adding.{openAdding}
+use Rattle.graph.specs.Entries.{openEntries}
+use Rattle.graph.specs.Several.{openSeveral}
 use Rattle.graph.specs.Walks.{openWalks}
 use Rattle.graph.specs.Labels.{openLabels}
 use Rattle.graph.specs.Contraction.{openContraction}
@@ -40,5 +42,5 @@ examples =
     ∷ []
 
 pub sample : map (λ (e : List ℕ × String). unitigs (e .0)) examples ≡ map (λ (e : List ℕ × String). bytes (e .1)) examples
-unfolding openText openLetters openOrder openKmer openCounted openTable openSightings openAdding openWalks openLabels openContraction openFasta openLabelFile openOutput
+unfolding openText openLetters openOrder openKmer openCounted openTable openSightings openAdding openEntries openSeveral openWalks openLabels openContraction openFasta openLabelFile openOutput
 sample = refl

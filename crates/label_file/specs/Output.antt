@@ -9,7 +9,7 @@ use Rattle.dna.specs.Answer.{Answer, gives, refuses, Filled, fill}
 use Rattle.kmer.specs.Kmer.{okK}
 use Rattle.state.specs.Counted.{fourBits}
 use Rattle.graph.specs.Sightings.{sameCanonical}
-use Rattle.graph.specs.Adding.{addLabel, Edges}
+use Rattle.graph.specs.Several.{untried, addEach}
 use Rattle.graph.specs.Contraction.{contract, Contracted, Totals}
 use Rattle.graph.specs.Fasta.{fasta}
 use Rattle.label_file.specs.LabelFile.{damaged, holds, fileOf}
@@ -74,34 +74,19 @@ unfoldable pub printed : ℕ → List ℕ → Filled → Filled
 printed p text f = elim (f .answer) [ gives n ↦ f | refuses r vs ↦ fill 11 (refusal r p) text ]
 
 -- The list of a table that was contracted after p records.
-unfoldable pub listed : ℕ → Buffers → Contracted → Left
-listed p b c =
+unfoldable pub listedAfter : ℕ → Buffers → Contracted → Left
+listedAfter p b c =
     let after = withList b c in
     let text : Totals → Filled = λ t. fasta (c .labels) (c .starts) (c .lengths) (t .labels) (b .text) in
     elim (c .answer) [ gives t ↦ withText after (printed p (b .text) (text t)) | refuses r vs ↦ refused r p after ]
 
--- Labels added: the number stored afterwards or the refusal that ended it, the record that is next or was refused, and the table's slices.
-pub record Taken : Type 0 where
-  pub answer : Answer ℕ
-  pub next : ℕ
-  pub keys : List ℕ
-  pub counts : List ℕ
-
--- The labels from record p on added in order to n vertices.
-unfoldable pub takeFrom : ℕ → ℕ → List (List ℕ) → ℕ → List ℕ → List ℕ → Taken
-takeFrom K p [] n keys counts = record { answer = gives n; next = p; keys = keys; counts = counts }
-takeFrom K p (label ∷ labels) n keys counts =
-    let a = addLabel fourBits sameCanonical K n keys counts label in
-    let on : Edges → Taken = λ e. takeFrom K (suc p) labels (e .stored) (a .keys) (a .counts) in
-    elim (a .answer) [ gives e ↦ on e | refuses r vs ↦ record { answer = refuses r vs; next = p; keys = a .keys; counts = a .counts } ]
-
--- The labels in order, then contraction and FASTA.
+-- The labels in order, then contraction and FASTA. The first record is `KC`, so a label with m before it stands in record m + 1.
 unfoldable pub listAll : ℕ → ℕ → List (List ℕ) → Buffers → Left
 listAll K cutoff labels b =
-    let t = takeFrom K 1 labels 0 (b .keys) (b .counts) in
-    let c : ℕ → Contracted = λ n. contract fourBits K cutoff n (t .keys) (t .counts) (b .labels) (b .starts) (b .lengths) (b .marks) in
+    let t = addEach fourBits sameCanonical K (untried 0 (b .keys) (b .counts)) labels in
+    let c = contract fourBits K cutoff (t .stored) (t .keys) (t .counts) (b .labels) (b .starts) (b .lengths) (b .marks) in
     let after = withTable b (t .keys) (t .counts) in
-    elim (t .answer) [ gives n ↦ listed (t .next) after (c n) | refuses r vs ↦ refused r (t .next) after ]
+    elim (t .answer) [ gives e ↦ listedAfter (suc (t .labels)) after c | refuses r vs ↦ refused r (suc (t .labels)) after ]
 
 -- The form is checked first, then K, labels in order, contraction, FASTA.
 unfoldable pub output : Buffers → List ℕ → Left
@@ -132,5 +117,5 @@ unitigs file = printing (output zeros file)
 
 -- Opens this file's definitions to a proof that computes.
 unfoldable pub openOutput : Unit {0}
-unfolding decimal refused printed listed takeFrom listAll output
+unfolding decimal refused printed listedAfter listAll output
 openOutput = tt

@@ -1,11 +1,15 @@
 -- What the enums of this crate say, and what its parts do. Assumes nothing.
-use Prim.Native.Nat.{ℕ, _+_, _≤_}
+use Prim.Native.Nat.{ℕ, suc, _+_, _≤_}
 use mathlib.Core.Path.{_≡_}
+use mathlib.Core.Bool.{true}
 use mathlib.Core.List.{List, []}
 use lib.ListN.{drop}
 use Rattle.dna.specs.Answer.{Answer, gives, refuses, Filled}
+use Rattle.graph.specs.Adding.{Edges}
+use Rattle.graph.specs.Entries.{listed, within}
+use Rattle.graph.specs.Several.{Several}
 use Rattle.label_file.specs.LabelFile.{damaged, holds, kIn, cutoffIn, fileOf, labelsOf}
-use Rattle.label_file.specs.Output.{Buffers, Left, Taken, decimal}
+use Rattle.label_file.specs.Output.{Buffers, Left, decimal}
 use Rattle.label_file.specs.declared.ListAnswer.{ListAnswer}
 use Rattle.label_file.specs.declared.ListAnswer.the-variants as list
 use Rattle.label_file.specs.declared.Checked.{Checked}
@@ -49,16 +53,22 @@ abbrev pub besides : {A : Type 0} → Answer A → List ℕ
 besides (gives a) = []
 besides (refuses r vs) = vs
 
--- The number stored and the number of records, or a refusal's number and the record that was refused.
-abbrev pub takingSays : Taking → Taken → Type 0
-takingSays (taking.Stored n records) t = (t .answer ≡ gives n) × (t .next ≡ records)
-takingSays (taking.Refused number at) t = (t .answer ≡ refuses number (besides (t .answer))) × (t .next ≡ at)
+-- An index of a file's labels, each of which lies within the file.
+pub record Indexes (file : List ℕ) (count : ℕ) (starts lengths : List ℕ) : Type 0 where
+  pub labels : listed count file starts lengths ≡ labelsOf (fileOf file)
+  pub inside : within file count starts lengths ≡ true
+  pub few : count ≤ 4096
 
--- Labels added: what is said of them, and the table's slices at exit.
-pub record Takes (r : Taking) (keys counts : List ℕ) (t : Taken) : Type 0 where
-  pub says : takingSays r t
-  pub keys-after : keys ≡ t .keys
-  pub counts-after : counts ≡ t .counts
+-- The number stored and the number of records, or a refusal's number and the record that was refused.
+abbrev pub takingOf : Answer Edges → ℕ → ℕ → Taking
+takingOf (gives e) stored p = taking.Stored stored p
+takingOf (refuses r vs) stored p = taking.Refused r p
+
+-- Labels added: what is said of them, and the table's slices at exit. A label with m before it stands in record m + 1.
+pub record Takes (r : Taking) (keys counts : List ℕ) (s : Several) : Type 0 where
+  pub says : r ≡ takingOf (s .answer) (s .stored) (suc (s .labels))
+  pub keys-after : keys ≡ s .keys
+  pub counts-after : counts ≡ s .counts
 
 -- A number's digits put in front of what stands from a place on; r is the place of the first.
 pub record Prefixes (x : ℕ) (s : List ℕ) (at r : ℕ) (s′ : List ℕ) : Type 0 where

@@ -1,5 +1,6 @@
 // The label file, and the list that it comes to, over lent buffers.
 mod form;
+mod index;
 mod line;
 mod list;
 

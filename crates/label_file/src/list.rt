@@ -1,21 +1,25 @@
 // A label file's list.
 ghost use mathlib.Core.Path.{_≡_};
 ghost use Rattle.state.specs.Counted.{fourBits};
+ghost use Rattle.graph.specs.Sightings.{sameCanonical};
 ghost use Rattle.graph.specs.Adding.{Edges};
+ghost use Rattle.graph.specs.Several.{untried, addEach};
 ghost use Rattle.graph.specs.Contraction.{contract, Totals};
 ghost use Rattle.graph.specs.Fasta.{fasta};
 ghost use Rattle.adding.specs.Says.{addAnswer};
 ghost use Rattle.contraction.specs.Says.{contractAnswer};
 ghost use Rattle.label_file.specs.LabelFile.{fileOf, labelsOf};
-ghost use Rattle.label_file.specs.Output.{lent, printed, listed, takeFrom, listAll, output};
+ghost use Rattle.label_file.specs.Output.{lent, printed, listedAfter, listAll, output};
 ghost use Rattle.label_file.specs.Says.{Fills, Lists, Sound, outcomeOf, Takes};
 use super::Checked;
 use super::ListAnswer;
 use super::Outcome;
 use super::Taking;
 use super::form;
+use super::index;
 use super::line;
 use adding::AddAnswer;
+use adding::LabelsAnswer;
 use contraction::ContractAnswer;
 use fasta::FastaAnswer;
 
@@ -47,29 +51,33 @@ fn listed_by(answer: ContractAnswer) -> Outcome
     }
 }
 
-// The labels added in order, until one is refused.
+// The labels added in order, until one is refused. Their index lies within the file, so it is not refused itself.
 fn take_labels(file: &[u8], k: usize, keys: &mut [u64], counts: &mut [u32]) -> Taking
     requires { ⌜ Sound (now file) ⌝ }
-    ensures { λ r. ⌜ Takes r (now (keys .exit)) (now (counts .exit)) (takeFrom k 1 (labelsOf (fileOf (now (file .entry)))) 0 (now (keys .entry)) (now (counts .entry))) ⌝ }
+    ensures { λ r. ⌜ Takes r (now (keys .exit)) (now (counts .exit)) (addEach fourBits sameCanonical k (untried 0 (now (keys .entry)) (now (counts .entry))) (labelsOf (fileOf (now (file .entry))))) ⌝ }
 {
-    let mut vertices = 0;
-    let mut record = 1;
-    let mut at = 7;
-    while at < file.len() {
-        let start = at + 4;
-        let end = start + form::two_bytes(file, at + 2);
-        match stored_by(adding::add_label(k, vertices, keys, counts, &file[start..end])) {
-            Outcome::Given(stored) => {
-                vertices = stored;
-                record += 1;
-                at = end;
-            }
-            Outcome::Refused(number) => return Taking::Refused { number, record },
-        }
-    }
-    Taking::Stored {
-        vertices,
-        records: record,
+    let mut starts = [0u32; 4096];
+    let mut lengths = [0u32; 4096];
+    let count = index::index_labels(file, &mut starts, &mut lengths);
+    match adding::add_labels(k, 0, keys, counts, file, &starts, &lengths, count) {
+        LabelsAnswer::Tried {
+            labels,
+            stored,
+            last,
+        } => match stored_by(last) {
+            Outcome::Given(_) => Taking::Stored {
+                vertices: stored,
+                records: labels + 1,
+            },
+            Outcome::Refused(number) => Taking::Refused {
+                number,
+                record: labels + 1,
+            },
+        },
+        LabelsAnswer::OutOfText => Taking::Refused {
+            number: 12,
+            record: 1,
+        },
     }
 }
 
@@ -105,7 +113,7 @@ fn list_table(
     marks: &mut [u8],
     text: &mut [u8],
 ) -> ListAnswer
-    ensures { λ r. ⌜ Lists r (lent (now (keys .entry)) (now (counts .entry)) (now (labels .exit)) (now (starts .exit)) (now (lengths .exit)) (now (marks .exit)) (now (text .exit))) (listed records (lent (now (keys .entry)) (now (counts .entry)) (now (labels .entry)) (now (starts .entry)) (now (lengths .entry)) (now (marks .entry)) (now (text .entry))) (contract fourBits k cutoff n (now (keys .entry)) (now (counts .entry)) (now (labels .entry)) (now (starts .entry)) (now (lengths .entry)) (now (marks .entry)))) ⌝ }
+    ensures { λ r. ⌜ Lists r (lent (now (keys .entry)) (now (counts .entry)) (now (labels .exit)) (now (starts .exit)) (now (lengths .exit)) (now (marks .exit)) (now (text .exit))) (listedAfter records (lent (now (keys .entry)) (now (counts .entry)) (now (labels .entry)) (now (starts .entry)) (now (lengths .entry)) (now (marks .entry)) (now (text .entry))) (contract fourBits k cutoff n (now (keys .entry)) (now (counts .entry)) (now (labels .entry)) (now (starts .entry)) (now (lengths .entry)) (now (marks .entry)))) ⌝ }
 {
     match listed_by(contraction::contract(
         k,

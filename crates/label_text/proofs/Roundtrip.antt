@@ -10,8 +10,8 @@ use lib.ListN.{length, take, drop, length-append}
 use lib.Seq.{take-append-seam, drop-append-seam}
 use Rattle.lemmas.proofs.Tests.{choose}
 use Rattle.dna.specs.Answer.{refuses, Filled}
+use Rattle.dna.proofs.Answers.{ungiven}
 use Rattle.label_file.specs.LabelFile.{holds, labelsFrom, fileOf, two}
-use Rattle.label_file.proofs.Outcomes.{ungiven}
 use Rattle.label_text.specs.Lines.{labelsIn}
 use Rattle.label_text.specs.Packing.{labelRecord, labelRecords, headRecord, packed, packText, Packs}
 use Rattle.label_text.specs.declared.PackAnswer.the-variants as pack

@@ -15,11 +15,12 @@ use Rattle.state.specs.Counted.{fourBits, openCounted}
 use Rattle.graph.specs.Table.{tableOf, keysOf, openTable}
 use Rattle.graph.specs.Sightings.{sameCanonical, openSightings}
 use Rattle.graph.specs.Adding.{openAdding}
+use Rattle.graph.specs.Entries.{listed, openEntries}
 use Rattle.graph.specs.Walks.{openWalks}
 use Rattle.graph.specs.Labels.{openLabels}
 use Rattle.graph.specs.Contraction.{Contracted, endsIn, contract, openContraction}
 use Rattle.laws.specs.Grown.{Grown, fresh, accepts}
-use Rattle.laws.specs.Demand.{listed, Sole, Demand3, openDemand}
+use Rattle.laws.specs.Demand.{Sole, Demand3, openDemand}
 use Rattle.laws.proofs.Demand.{demand3}
 use Rattle.laws.proofs.Example.{p1-grown}
 
@@ -45,7 +46,7 @@ pub met : Demand3 3 (keysOf 2 keys) (endsIn fourBits 1 (tableOf 2 keys counts)) 
 met = demand3 grown 1 (replicate 8 0) (replicate 2 0) (replicate 2 0) (replicate 2 0) (record { labels = 1; bases = 4 }) accepted
 
 pub met-label : listed 1 (called .labels) (called .starts) (called .lengths) ≡ bytes "ACGG" ∷ []
-unfolding openText openLetters openOrder openKmer openCounted openTable openWalks openLabels openContraction openDemand
+unfolding openText openLetters openOrder openKmer openCounted openTable openEntries openWalks openLabels openContraction openDemand
 met-label = refl
 
 pub met-sole : Sole 3 (keysOf 2 keys) (endsIn fourBits 1 (tableOf 2 keys counts)) 0 Back 1 Back

@@ -6,9 +6,10 @@ use Rattle.dna.specs.Answer.{gives}
 use Rattle.state.specs.Counted.{Kind}
 use Rattle.graph.specs.Table.{tableOf, keysOf}
 use Rattle.graph.specs.Sightings.{sameCanonical}
+use Rattle.graph.specs.Entries.{listed}
 use Rattle.graph.specs.Contraction.{Totals, Contracted, endsIn, contract}
 use Rattle.laws.specs.Grown.{Grown}
-use Rattle.laws.specs.Demand.{listed, Maximal, Demand3}
+use Rattle.laws.specs.Demand.{Maximal, Demand3}
 use Rattle.laws.proofs.Listed.{contract-listed, contract-always}
 use Rattle.laws.proofs.Maximal.{grown-maximal}
 

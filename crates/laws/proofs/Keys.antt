@@ -1,8 +1,8 @@
 -- Adding keeps a table fit, and the keys of a grown table are the canonical k-mers of its labels' windows. Assumes nothing.
-use mathlib.Core.Path.{_≡_, refl, sym, ap, _∙_, subst}
+use mathlib.Core.Path.{_≡_, refl, sym, ap, _∙_}
 use mathlib.Core.Bool.{Bool, true, _||_, or-false, or-assoc}
 use mathlib.Core.List.{List}
-use Prim.Native.Nat.{ℕ, zero, suc, _≤_}
+use Prim.Native.Nat.{ℕ, zero, suc}
 use native.Mathlib.Omega.{arith}
 use lib.Dec.{eqb}
 use borrow.Author.Tests.{le-leb}
@@ -11,12 +11,11 @@ use Rattle.kmer.specs.Kmer.{canon}
 use Rattle.state.specs.Counted.{Kind}
 use Rattle.graph.specs.Table.{Table, tableOf, keysOf, capacity, fit, fitFrom, stored}
 use Rattle.graph.specs.Sightings.{Rule, window, windows}
-use Rattle.graph.specs.Adding.{Edges, Added, storeWindows, added, addLabel}
+use Rattle.graph.specs.Adding.{Edges, Added, storeWindows, added, storedAfter, addLabel}
 use Rattle.graph.proofs.Rank.{stored-nil}
-use Rattle.graph.proofs.Store.{Sound}
-use Rattle.graph.proofs.Adding.{store-or, added-keys, added-sound}
-use Rattle.graph.proofs.Accepted.{fit-sound, Accepted, accepted, refused-same}
-use Rattle.laws.specs.Grown.{Grown, fresh, accepts, storedAfter, shows, seenIn}
+use Rattle.graph.proofs.Adding.{store-or, added-keys}
+use Rattle.graph.proofs.Accepted.{accepted, accepted-fit, refused-same}
+use Rattle.laws.specs.Grown.{Grown, fresh, accepts, shows, seenIn}
 
 -- ---- fit
 
@@ -24,24 +23,12 @@ module _ (κ : Kind) (rule : Rule) (K n : ℕ) (keys counts label : List ℕ) wh
   abbrev done : Added
   done = addLabel κ rule K n keys counts label
 
-  -- The table that an accepted label leaves.
-  accepted-sound : (e : Edges) → Accepted κ rule K n keys counts label done e → Sound K (tableOf (e .stored) (done .keys) (done .counts))
-  accepted-sound e a =
-      subst (Sound K) (sym (a .table))
-      (added-sound κ rule K label (tableOf n keys counts) (a .reads) (fit-sound K n keys counts (a .fits)))
-
-  pub accepted-fit : (e : Edges) → done .answer ≡ gives e → fit K (e .stored) (done .keys) (done .counts) ≡ true
-  accepted-fit e h =
-      let a = accepted κ rule K n keys counts label e h in
-      let c : e .stored ≤ capacity (done .keys) (done .counts) = rw (a .keys-length, a .counts-length) (a .room) in
-      rw (le-leb (e .stored) (capacity (done .keys) (done .counts)) c) (accepted-sound e a .fits)
-
   -- Adding keeps a table fit, whatever it answers.
   pub add-fit : fit K n keys counts ≡ true → fit K (storedAfter n (done .answer)) (done .keys) (done .counts) ≡ true
   add-fit f = go (done .answer) refl
     where
       go : (a : Answer Edges) → done .answer ≡ a → fit K (storedAfter n a) (done .keys) (done .counts) ≡ true
-      go (gives e) h = accepted-fit e h
+      go (gives e) h = accepted-fit κ rule K n keys counts label e h
       go (refuses x vs) h =
           let s = refused-same κ rule K n keys counts label x vs h in
           rw (s .keys-same, s .counts-same) f

@@ -5,7 +5,7 @@ use mathlib.Core.Bool.{true, not, _||_}
 use mathlib.Core.List.{List, [], _∷_, _++_, map, append-assoc}
 use Prim.Native.Nat.{ℕ, _+_, _≤_}
 use native.Mathlib.Omega.{arith}
-use borrow.Author.Tests.{not-false}
+use borrow.Author.Tests.{not-false, le-leb}
 use lib.Dec.{ltb}
 use lib.ListN.{length, take, drop, length-append}
 use lib.Seq.{take-at, drop-at}
@@ -14,10 +14,11 @@ use Rattle.dna.specs.Answer.{gives}
 use Rattle.kmer.specs.Kmer.{okK}
 use Rattle.state.specs.Counted.{Kind}
 use Rattle.graph.specs.Table.{tableOf, keysOf, fit}
+use Rattle.graph.specs.Entries.{listed, within}
 use Rattle.graph.specs.Walks.{Ends}
 use Rattle.graph.specs.Labels.{Run, run}
 use Rattle.graph.specs.Contraction.{Entry, Totals, Contracted, entries, sorted, endToEnd, endsIn, written, finish, contract}
-use Rattle.laws.specs.Demand.{Each, Each.none, Each.more, inOrder, listed, Always}
+use Rattle.laws.specs.Demand.{Each, Each.none, Each.more, inOrder, Always}
 use Rattle.laws.proofs.Indexed.{sorted-length, sorted-each}
 use Rattle.laws.proofs.Fits.{fit-always}
 
@@ -51,6 +52,12 @@ unfolding listed
 listed-right bytes none starts lengths = refl
 listed-right bytes (more p q) starts lengths = ap₂ (λ (l : List ℕ) (ls : List (List ℕ)). l ∷ ls) (p .0) (listed-right bytes q starts lengths)
 
+within-right : (bytes : List ℕ) {es : List Entry} → Each (Right bytes) es → (starts lengths : List ℕ)
+    → within bytes (length es) (map (λ (e : Entry). e .start) es ++ starts) (map (λ (e : Entry). length (e .label)) es ++ lengths) ≡ true
+unfolding within
+within-right bytes none starts lengths = refl
+within-right bytes (more {x} p q) starts lengths = rw (le-leb (x .start + length (x .label)) (length bytes) (p .1)) (within-right bytes q starts lengths)
+
 module _ (κ : Kind) (K cutoff n : ℕ) (keys counts labels starts lengths marks : List ℕ) where
   abbrev ks : List ℕ
   ks = keysOf n keys
@@ -61,22 +68,26 @@ module _ (κ : Kind) (K cutoff n : ℕ) (keys counts labels starts lengths marks
   abbrev result : Contracted
   result = contract κ K cutoff n keys counts labels starts lengths marks
 
-  -- What is written, read by its index.
-  written-listed : (r : Run)
-      → listed (length (r .labels)) (written κ K cutoff n keys counts labels starts lengths marks r .labels)
-      (written κ K cutoff n keys counts labels starts lengths marks r .starts)
-      (written κ K cutoff n keys counts labels starts lengths marks r .lengths)
-      ≡ inOrder r
+  -- What is written, read by its index: the labels in order, each within the bytes.
+  record Index (c : Contracted) (r : Run) : Type 0 where
+    lists : listed (length (r .labels)) (c .labels) (c .starts) (c .lengths) ≡ inOrder r
+    inside : within (c .labels) (length (r .labels)) (c .starts) (c .lengths) ≡ true
+
+  written-index : (r : Run) → Index (written κ K cutoff n keys counts labels starts lengths marks r) r
   unfolding written
-  written-listed r =
+  written-index r =
       let ls = r .labels in
       let xs = sorted (entries 0 (r .labels)) in
       let bytes = endToEnd (r .labels) ++ drop (length (endToEnd (r .labels))) labels in
       let right = sorted-each (Right bytes) (entries-right 0 [] ls (drop (length (endToEnd (r .labels))) labels) bytes refl refl) in
       let sp = map (λ (e : Entry). e .start) xs in
       let lp = map (λ (e : Entry). length (e .label)) xs in
-      ap (λ (m : ℕ). listed m bytes (sp ++ drop (length sp) starts) (lp ++ drop (length lp) lengths)) (sym (sorted-length 0 ls))
-      ∙ listed-right bytes right (drop (length sp) starts) (drop (length lp) lengths)
+      record {
+        lists = ap (λ (m : ℕ). listed m bytes (sp ++ drop (length sp) starts) (lp ++ drop (length lp) lengths)) (sym (sorted-length 0 ls))
+            ∙ listed-right bytes right (drop (length sp) starts) (drop (length lp) lengths);
+        inside = ap (λ (m : ℕ). within bytes m (sp ++ drop (length sp) starts) (lp ++ drop (length lp) lengths)) (sym (sorted-length 0 ls))
+            ∙ within-right bytes right (drop (length sp) starts) (drop (length lp) lengths);
+      }
 
   written-number : (r : Run) (t : Totals) → written κ K cutoff n keys counts labels starts lengths marks r .answer ≡ gives t
       → t .labels ≡ length (r .labels)
@@ -118,13 +129,21 @@ module _ (κ : Kind) (K cutoff n : ℕ) (keys counts labels starts lengths marks
       P : Contracted → Type 0
       P c = c .answer ≡ gives t → Accepted c t
 
-  -- The labels that the call's index lists are those of the run, in ascending order.
+  -- The labels that the call's index lists are those of the run, in ascending order,
   pub contract-listed : (t : Totals) → result .answer ≡ gives t
       → listed (t .labels) (result .labels) (result .starts) (result .lengths) ≡ inOrder (run K ks es n)
   contract-listed t h =
       let a = accepted t h in
       let r = run K ks es n in
-      ap₂ (λ (m : ℕ) (c : Contracted). listed m (c .labels) (c .starts) (c .lengths)) (a .number) (a .is) ∙ written-listed r
+      ap₂ (λ (m : ℕ) (c : Contracted). listed m (c .labels) (c .starts) (c .lengths)) (a .number) (a .is) ∙ written-index r .lists
+
+  -- and each lies within the label buffer.
+  pub contract-within : (t : Totals) → result .answer ≡ gives t
+      → within (result .labels) (t .labels) (result .starts) (result .lengths) ≡ true
+  contract-within t h =
+      let a = accepted t h in
+      let r = run K ks es n in
+      ap₂ (λ (m : ℕ) (c : Contracted). within (c .labels) m (c .starts) (c .lengths)) (a .number) (a .is) ∙ written-index r .inside
 
   -- They meet demand 3 but for its last sentence.
   pub contract-always : (t : Totals) → result .answer ≡ gives t

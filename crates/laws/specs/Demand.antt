@@ -1,10 +1,10 @@
 -- Demand 3, over the numbers of the keys and the bytes of the labels. Assumes nothing.
-use Prim.Native.Nat.{ℕ, zero, suc, _%_, _≤_, _<_}
+use Prim.Native.Nat.{ℕ, _%_, _≤_, _<_}
 use mathlib.Core.Path.{_≡_}
 use mathlib.Core.Logic.{_⊎_}
 use mathlib.Core.Bool.{true, false, cond}
 use mathlib.Core.List.{List, [], _∷_, _++_, map, reverse}
-use lib.ListN.{length, take, drop, getD, replicate}
+use lib.ListN.{length, getD, replicate}
 use Rattle.dna.specs.Letters.{reverseComplement}
 use Rattle.dna.specs.Order.{before}
 use Rattle.kmer.specs.Kmer.{rc, canon, forward, letters}
@@ -32,13 +32,6 @@ pub data Some {A : Type 0} (P : A → Type 0) : List A → Type 0 where
 -- The labels in the order of the index.
 abbrev pub inOrder : Run → List (List ℕ)
 inOrder r = map (λ (e : Entry). e .label) (sorted (entries 0 (r .labels)))
-
--- The labels that the first so many entries of an index list.
-unfoldable pub listed : ℕ → List ℕ → List ℕ → List ℕ → List (List ℕ)
-listed zero bytes starts lengths = []
-listed (suc m) bytes [] lengths = []
-listed (suc m) bytes (s ∷ starts) [] = []
-listed (suc m) bytes (s ∷ starts) (k ∷ lengths) = take k (drop s bytes) ∷ listed m bytes starts lengths
 
 -- Strictly, in byte order.
 pub data Ascending : List (List ℕ) → Type 0 where
@@ -118,5 +111,5 @@ module _ (K : ℕ) (ks : List ℕ) (es : List Ends) where
 
 -- Opens this file's definitions to a proof that computes.
 unfoldable pub openDemand : Unit {0}
-unfolding listed retained
+unfolding retained
 openDemand = tt

@@ -4,18 +4,13 @@ use mathlib.Core.Path.{_≡_}
 use mathlib.Core.Bool.{Bool, false, cond, _&&_, _||_}
 use mathlib.Core.List.{List, [], _∷_}
 use lib.Dec.{eqb}
-use Rattle.dna.specs.Answer.{Answer, gives, refuses}
+use Rattle.dna.specs.Answer.{gives}
 use Rattle.kmer.specs.Kmer.{canon, forward}
 use Rattle.state.specs.declared.Side.{Side}
 use Rattle.state.specs.Counted.{Kind, opposite}
 use Rattle.graph.specs.Sightings.{Sighting, Rule, window, windows, sightings}
 use Rattle.graph.specs.Walks.{seen, leaving}
 use Rattle.graph.specs.Adding.{Edges, addLabel}
-
--- The number stored after a label: the one answered, or on a refusal the one before.
-abbrev pub storedAfter : ℕ → Answer Edges → ℕ
-storedAfter n (gives e) = e .stored
-storedAfter n (refuses r vs) = n
 
 -- A table grown from none stored: the labels that were added and not refused, last one first, and the number stored and the two
 -- slices as they are after them.

@@ -37,12 +37,3 @@ module _ (n : ℕ) (keys counts : List ℕ) (m : ℕ) (places new-keys new-count
           → counts′ ≡ over (putIn (take m places) (take m new-counts) (take n counts)) counts
           → Joins (Joined (n + m)) keys′ counts′ (joinCall n keys counts m places new-keys new-counts)
       join-all h a b = rw (placed-is ∙ r, le-ltb (capacity keys counts) (n + m) h) (record { answer = refl; keys-after = a; counts-after = b })
-
-  -- For callers: what the call does where there is a place for each vertex, and room.
-  pub joins-all : {r : JoinAnswer} {keys′ counts′ : List ℕ} → placed n keys counts m places new-keys new-counts ≡ true → n + m ≤ capacity keys counts
-      → Joins r keys′ counts′ (joinCall n keys counts m places new-keys new-counts)
-      → (r ≡ Joined (n + m)) × (keys′ ≡ over (wordsOf (putIn (take m places) (keysOf m new-keys) (keysOf n keys))) keys)
-      × (counts′ ≡ over (putIn (take m places) (take m new-counts) (take n counts)) counts)
-  joins-all p h j =
-      let g = rw (p, le-ltb (capacity keys counts) (n + m) h) at j in
-      (g .answer, g .keys-after, g .counts-after)

@@ -86,8 +86,7 @@ pub find-spec : {M : Type 1} → statement M
 find-spec =
     tie.close
     (tie.spec
-    (λ c κs. search needs)
-    (λ c κs. search needs)
+    (λ c κs. search needs) (λ c κs. search needs)
     returns
     slot-of-requires
     mul-lo
@@ -97,9 +96,7 @@ find-spec =
     mul-hi
     shared-slice-read-hi
     cast-hi
-    (λ c κs. search needs)
-    (λ c. search needs)
-    (λ c. search needs)
+    (λ c κs. search needs) (λ c. search needs) (λ c. search needs)
     is-between-requires
     returns-2
     (λ c κs. search needs)

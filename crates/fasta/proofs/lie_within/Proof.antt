@@ -5,7 +5,7 @@ use Prim.Native.Nat.{ℕ, _+_, _-_, _≤_, _<_}
 use native.Mathlib.Omega.{arith}
 use borrow.Author.Count.{below-more}
 use lib.ListN.{length, getD}
-use Rattle.fasta.proofs.Entries.{within-long, within-at, within-all}
+use Rattle.graph.proofs.Entries.{within-long, within-at, within-all}
 use borrow.Author.Needs.{needs}
 use Rattle.fasta.proofs.lie_within.Statement.{statement}
 use Rattle.fasta.proofs.lie_within.Tie as tie
@@ -46,21 +46,12 @@ returns-4 c =
 pub lie-within-spec : {M : Type 1} → statement M
 lie-within-spec =
     tie.close
-    (tie.spec
-    Inv-loop
-    μ-loop
+    (tie.spec Inv-loop μ-loop
     returns
     returns-2
-    (λ c. search needs)
-    (λ c. search needs)
-    (λ c. search needs)
-    (λ c κs. search needs)
-    (λ c. search needs)
-    (λ c. search needs)
-    (λ c κs. search needs)
+    (λ c. search needs) (λ c. search needs) (λ c. search needs) (λ c κs. search needs) (λ c. search needs) (λ c. search needs) (λ c κs. search needs)
     (λ c. search needs)
     returns-3
-    (λ c. search needs)
-    (λ c. search needs)
+    (λ c. search needs) (λ c. search needs)
     loop-again
     returns-4)

@@ -43,20 +43,15 @@ returns-5 c = read-all _ _ (c .before .loop .inv) (omega arith)
 pub number-of-spec : {M : Type 1} → statement M
 number-of-spec =
     tie.close
-    (tie.spec
-    Inv-loop
-    μ-loop
+    (tie.spec Inv-loop μ-loop
     returns
     loop-holds
     (λ c. search needs)
     returns-2
     returns-3
-    (λ c. search needs)
-    (λ c. search needs)
-    (λ c. search needs)
+    (λ c. search needs) (λ c. search needs) (λ c. search needs)
     returns-4
-    (λ c. search needs)
-    (λ c. search needs)
+    (λ c. search needs) (λ c. search needs)
     loop-again
     (λ c. search needs)
     returns-5)

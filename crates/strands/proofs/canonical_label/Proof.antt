@@ -14,9 +14,7 @@ pub canonical-label-spec : {M : Type 1} → statement M
 canonical-label-spec =
     tie.close
     (tie.spec
-    (λ c κs. search needs)
-    (λ c κs. search needs)
-    (λ c. search needs)
+    (λ c κs. search needs) (λ c κs. search needs) (λ c. search needs)
     returns
     (λ c. search needs)
     (λ c. lesser-kept _ (sym (c .before .is-above .ensures) ∙ c .if1 .left)))

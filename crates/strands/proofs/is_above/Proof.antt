@@ -37,18 +37,11 @@ loop-again c =
 pub is-above-spec : {M : Type 1} → statement M
 is-above-spec =
     tie.close
-    (tie.spec
-    Inv-loop
-    μ-loop
+    (tie.spec Inv-loop μ-loop
     (λ c. (refl, λ t h. absurd (omega arith)))
-    (λ c. search needs)
-    (λ c. search needs)
-    (λ c. search needs)
-    (λ c κs. search needs)
-    (λ c. search needs)
+    (λ c. search needs) (λ c. search needs) (λ c. search needs) (λ c κs. search needs) (λ c. search needs)
     returns
     returns-2
-    (λ c. search needs)
-    (λ c. search needs)
+    (λ c. search needs) (λ c. search needs)
     loop-again
     (λ c. sym (alike-whole _ (c .before .loop .i) (omega arith) (c .before .loop .inv .1))))

@@ -183,12 +183,9 @@ returns c = grouping-all (c .before .before .before .before .before .before .bef
 pub group-spec : {M : Type 1} → statement M
 group-spec =
     tie.close
-    (tie.spec
-    Inv-loop
-    μ-loop
+    (tie.spec Inv-loop μ-loop
     loop-holds
-    (λ c. search needs)
-    (λ c. search needs)
+    (λ c. search needs) (λ c. search needs)
     cast-o
     key-at-requires
     is-last-requires
@@ -200,8 +197,7 @@ group-spec =
     sub-new-counts
     mul-new-counts
     slice-write-new-counts
-    (λ c. search needs)
-    (λ c. search needs)
+    (λ c. search needs) (λ c. search needs)
     loop-again
     put-key-requires
     mul-new-places
@@ -213,8 +209,7 @@ group-spec =
     mul-new-counts-2
     slice-write-new-counts-2
     add-u
-    (λ c. search needs)
-    (λ c. search needs)
+    (λ c. search needs) (λ c. search needs)
     loop-again-2
     same-length
     same-length-2

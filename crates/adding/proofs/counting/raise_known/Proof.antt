@@ -69,24 +69,18 @@ returns c = raising-all (c .before .loop .inv) (c .loop-test .left)
 pub raise-known-spec : {M : Type 1} → statement M
 raise-known-spec =
     tie.close
-    (tie.spec
-    Inv-loop
-    μ-loop
+    (tie.spec Inv-loop μ-loop
     loop-holds
-    (λ c. search needs)
-    (λ c. search needs)
-    (λ c. search needs)
+    (λ c. search needs) (λ c. search needs) (λ c. search needs)
     cast-i
     mul-counted
     slice-read-counted
     counted-requires
     mul-counts
     slice-write-counts
-    (λ c. search needs)
-    (λ c. search needs)
+    (λ c. search needs) (λ c. search needs)
     loop-again
-    (λ c. search needs)
-    (λ c. search needs)
+    (λ c. search needs) (λ c. search needs)
     loop-again-2
     same-length
     returns)

@@ -36,8 +36,5 @@ gather-spec =
     (λ c. search needs)
     slice-aggregate-look-up-by
     look-up-by-requires
-    (λ c. search needs)
-    (λ c. search needs)
-    (λ c. search needs)
-    (λ c. search needs)
+    (λ c. search needs) (λ c. search needs) (λ c. search needs) (λ c. search needs)
     returns)

@@ -72,8 +72,7 @@ code-of-spec =
     mul-result
     add-result
     returns
-    (λ c κs. search needs)
-    (λ c κs. search needs)
+    (λ c κs. search needs) (λ c κs. search needs)
     mul-result-2
     add-result-2
     returns-2)

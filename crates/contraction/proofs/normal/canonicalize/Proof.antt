@@ -38,19 +38,14 @@ loop-again c =
 pub canonicalize-spec : {M : Type 1} → statement M
 canonicalize-spec =
     tie.close
-    (tie.spec
-    Inv-loop
-    μ-loop
+    (tie.spec Inv-loop μ-loop
     (λ c. (omega arith, refl))
-    (λ c. search needs)
-    (λ c. search needs)
+    (λ c. search needs) (λ c. search needs)
     cast-canonicalize-part
-    (λ c. search needs)
-    (λ c. search needs)
+    (λ c. search needs) (λ c. search needs)
     cast-canonicalize-part-2
     canonicalize-part-requires
-    (λ c. search needs)
-    (λ c. search needs)
+    (λ c. search needs) (λ c. search needs)
     loop-again
     (λ c. ap length (c .before .loop .inv .1))
     (λ c. c .before .loop .inv .1))

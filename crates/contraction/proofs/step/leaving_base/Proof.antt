@@ -19,9 +19,6 @@ pub leaving-base-spec : {M : Type 1} → statement M
 leaving-base-spec =
     tie.close
     (tie.spec
-    (λ c κs. search needs)
-    (λ c. search needs)
-    (λ c κs. search needs)
-    (λ c. search needs)
+    (λ c κs. search needs) (λ c. search needs) (λ c κs. search needs) (λ c. search needs)
     returns
     returns-2)

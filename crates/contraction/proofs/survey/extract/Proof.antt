@@ -154,8 +154,7 @@ extract-spec =
     slice-write-trail
     closed-bases
     (λ c. omega (arith, half-short (c .before .before .before .before .before .before .before .before)))
-    (λ c. search needs)
-    (λ c. search needs)
+    (λ c. search needs) (λ c. search needs)
     returns
     slice-write-trail-2
     (λ c. omega (arith, half-short (c .before .before .before .before .before .before .before .before .before)))
@@ -166,9 +165,6 @@ extract-spec =
     front-bases
     open-bases
     (λ c. omega (arith, end-short (c .before .before .before .before .before .before .before)))
-    (λ c κs. search needs)
-    (λ c κs. search needs)
-    (λ c κs. search needs)
-    (λ c. search needs)
+    (λ c κs. search needs) (λ c κs. search needs) (λ c κs. search needs) (λ c. search needs)
     trail-length
     returns-2)

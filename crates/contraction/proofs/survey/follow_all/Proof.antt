@@ -110,9 +110,7 @@ returns c =
 pub follow-all-spec : {M : Type 1} → statement M
 follow-all-spec =
     tie.close
-    (tie.spec
-    Inv-loop
-    μ-loop
+    (tie.spec Inv-loop μ-loop
     loop-holds
     (λ c κs. search needs)
     slice-write-trail

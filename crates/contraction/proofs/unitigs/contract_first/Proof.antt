@@ -25,9 +25,5 @@ contract-first-spec =
     (tie.spec
     (λ c. search needs)
     slice-aggregate-contract-fit
-    (λ c κs. search needs)
-    (λ c. search needs)
-    (λ c. search needs)
-    (λ c. search needs)
-    (λ c. search needs)
+    (λ c κs. search needs) (λ c. search needs) (λ c. search needs) (λ c. search needs) (λ c. search needs)
     returns)

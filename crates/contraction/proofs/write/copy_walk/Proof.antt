@@ -23,16 +23,11 @@ slice-write-buffer c =
 pub copy-walk-spec : {M : Type 1} → statement M
 copy-walk-spec =
     tie.close
-    (tie.spec
-    Inv-loop
-    μ-loop
+    (tie.spec Inv-loop μ-loop
     loop-holds
-    (λ c. search needs)
-    (λ c. search needs)
-    (λ c. search needs)
+    (λ c. search needs) (λ c. search needs) (λ c. search needs)
     slice-write-buffer
-    (λ c. search needs)
-    (λ c. search needs)
+    (λ c. search needs) (λ c. search needs)
     (λ c. copying-next (c .before .before .loop .inv) (c .before .loop-test .taken))
     (λ c. copying-length (c .before .loop .inv))
     (λ c. copying-ends (c .before .loop .inv) (c .loop-test .left)))

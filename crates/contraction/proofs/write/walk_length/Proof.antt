@@ -47,9 +47,7 @@ returns c =
 pub walk-length-spec : {M : Type 1} → statement M
 walk-length-spec =
     tie.close
-    (tie.spec
-    Inv-loop
-    μ-loop
+    (tie.spec Inv-loop μ-loop
     (λ c. search needs)
     add-if1
     shared-slice-read-if1

@@ -90,21 +90,15 @@ returns c = listed-all (c .before .loop .inv) (c .loop-test .left)
 pub write-labels-spec : {M : Type 1} → statement M
 write-labels-spec =
     tie.close
-    (tie.spec
-    Inv-loop
-    μ-loop
+    (tie.spec Inv-loop μ-loop
     loop-holds
     shared-slice-read-if1
     add-from
-    (λ c. search needs)
-    (λ c. search needs)
+    (λ c. search needs) (λ c. search needs)
     loop-again
-    (λ c. search needs)
-    (λ c. search needs)
+    (λ c. search needs) (λ c. search needs)
     first-word
-    (λ c. search needs)
-    (λ c. search needs)
-    (λ c. search needs)
+    (λ c. search needs) (λ c. search needs) (λ c. search needs)
     second-word
     write-label-requires
     cast-starts
@@ -115,8 +109,7 @@ write-labels-spec =
     slice-write-lengths
     (λ c. search needs)
     add-at
-    (λ c. search needs)
-    (λ c. search needs)
+    (λ c. search needs) (λ c. search needs)
     loop-again-2
     (λ c. c .before .loop .inv .long-buffer)
     (λ c. c .before .loop .inv .long-starts)

@@ -95,9 +95,7 @@ returns-3 c =
 pub least-rotation-start-spec : {M : Type 1} → statement M
 least-rotation-start-spec =
     tie.close
-    (tie.spec
-    Inv-loop
-    μ-loop
+    (tie.spec Inv-loop μ-loop
     returns
     loop-holds
     (λ c. omega (arith, ltb-true))

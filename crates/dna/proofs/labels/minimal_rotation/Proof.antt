@@ -69,18 +69,14 @@ returns-2 c =
 pub minimal-rotation-spec : {M : Type 1} → statement M
 minimal-rotation-spec =
     tie.close
-    (tie.spec
-    Inv-loop
-    μ-loop
+    (tie.spec Inv-loop μ-loop
     returns
     (λ c κs. search needs)
     loop-holds
     add-out
     (λ c. search needs)
     shared-slice-read-out
-    (λ c. search needs)
-    (λ c. search needs)
-    (λ c. search needs)
+    (λ c. search needs) (λ c. search needs) (λ c. search needs)
     loop-again
     (λ c. search needs)
     returns-2)

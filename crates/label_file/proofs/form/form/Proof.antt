@@ -55,9 +55,7 @@ returns-4 c = remains-none (c .before .loop .inv) (c .loop-test .left)
 pub form-spec : {M : Type 1} → statement M
 form-spec =
     tie.close
-    (tie.spec
-    Inv-loop
-    μ-loop
+    (tie.spec Inv-loop μ-loop
     returns
     (λ c κs. search needs)
     returns-2
@@ -66,9 +64,6 @@ form-spec =
     returns-3
     (λ c. search needs)
     two-bytes-requires
-    (λ c. search needs)
-    (λ c. search needs)
-    (λ c. search needs)
-    (λ c. search needs)
+    (λ c. search needs) (λ c. search needs) (λ c. search needs) (λ c. search needs)
     loop-again
     returns-4)

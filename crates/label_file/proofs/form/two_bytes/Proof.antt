@@ -30,8 +30,7 @@ two-bytes-spec =
     (tie.spec
     (λ c. search needs)
     cast-result
-    (λ c. search needs)
-    (λ c. search needs)
+    (λ c. search needs) (λ c. search needs)
     cast-result-2
     (λ c. omega (arith, c .shared-slice-known2 .given (c .before .before .args .at + 1)))
     add-result-2

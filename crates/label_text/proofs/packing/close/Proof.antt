@@ -35,11 +35,9 @@ close-spec =
     slice-write-out
     (λ c. search needs)
     slice-write-out-2
-    (λ c. search needs)
-    (λ c. search needs)
+    (λ c. search needs) (λ c. search needs)
     slice-write-out-3
-    (λ c. search needs)
-    (λ c. search needs)
+    (λ c. search needs) (λ c. search needs)
     slice-write-out-4
     (λ c. search needs)
     add-result-2
