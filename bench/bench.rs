@@ -87,8 +87,8 @@ fn cases(k: usize, n: usize) -> Vec<Case> {
     ]
 }
 
-// Nanoseconds of adding and of contraction, and the FASTA.
-type Timed = (f64, f64, Vec<u8>);
+// Nanoseconds of adding and of contraction, the FASTA, and nanoseconds of adding by one call.
+type Timed = (f64, f64, Vec<u8>, f64);
 
 fn rust<const K: usize>(c: &Case) -> Timed {
     let begin = Instant::now();
@@ -101,7 +101,7 @@ fn rust<const K: usize>(c: &Case) -> Timed {
     let list = graph.list();
     let contracted = begin.elapsed();
     let fasta = list.iter().flat_map(|l| [b">0\n", &l[..], b"\n"].concat()).collect();
-    (added.as_nanos() as f64, contracted.as_nanos() as f64, fasta)
+    (added.as_nanos() as f64, contracted.as_nanos() as f64, fasta, added.as_nanos() as f64)
 }
 
 struct Table {
@@ -110,7 +110,7 @@ struct Table {
     n: usize,
 }
 
-// This library's table of a case, and the nanoseconds of adding.
+// The table of a case by a call for each label, and the nanoseconds of adding.
 fn grown(c: &Case) -> (Table, f64) {
     let (mut keys, mut counts, mut n, mut figures) = (vec![1u64; 2 * c.n], vec![1u32; c.n], 0, [0u64; 2]);
     let begin = Instant::now();
@@ -125,7 +125,26 @@ fn grown(c: &Case) -> (Table, f64) {
     (Table { keys, counts, n }, added.as_nanos() as f64)
 }
 
-// Nanoseconds of its contraction, and the FASTA.
+// The nanoseconds of adding all labels by one call, which has to come to the same table.
+fn grown_at_once(c: &Case, t: &Table) -> f64 {
+    let (mut keys, mut counts, mut totals) = (vec![1u64; 2 * c.n], vec![1u32; c.n], [0u64; 2]);
+    let text = c.labels.concat();
+    let lengths: Vec<u32> = c.labels.iter().map(|l| l.len() as u32).collect();
+    let starts: Vec<u32> = lengths.iter().scan(0, |end, n| Some(std::mem::replace(end, *end + n))).collect();
+    let begin = Instant::now();
+    let r = unsafe {
+        lash_add_labels(
+            c.k, 0, keys.as_mut_ptr(), keys.len(), counts.as_mut_ptr(), counts.len(), text.as_ptr(), text.len(), starts.as_ptr(), starts.len(),
+            lengths.as_ptr(), lengths.len(), lengths.len(), totals.as_mut_ptr(), 2, [0u64; 2].as_mut_ptr(), 2,
+        )
+    };
+    let added = begin.elapsed();
+    assert_eq!((r, totals), (0, [c.labels.len() as u64, t.n as u64]));
+    assert!(keys == t.keys && counts == t.counts, "the tables differ: K {}, {}, {}", c.k, c.n, c.name);
+    added.as_nanos() as f64
+}
+
+// Nanoseconds of contraction, and the FASTA.
 fn contracted(c: &Case, t: &Table) -> (f64, Vec<u8>) {
     let (mut labels, mut out) = (vec![1u8; c.n * c.k], vec![1u8; c.n * (c.k + 4)]);
     let (mut starts, mut lengths, mut marks, mut figures) = (vec![1u32; c.n], vec![1u32; c.n], vec![1u8; c.n], [0u64; 2]);
@@ -151,13 +170,13 @@ fn contracted(c: &Case, t: &Table) -> (f64, Vec<u8>) {
 }
 
 fn lesser(a: Timed, b: Timed) -> Timed {
-    (a.0.min(b.0), a.1.min(b.1), b.2)
+    (a.0.min(b.0), a.1.min(b.1), b.2, a.3.min(b.3))
 }
 
 // A case, its table once there is one, and the least times of both sides so far.
 struct Row {
     case: Case,
-    table: Option<(Table, f64)>,
+    table: Option<(Table, f64, f64)>,
     least: Option<(Timed, Timed)>,
 }
 
@@ -171,14 +190,18 @@ impl Row {
     fn run(&mut self) {
         let (k, c) = (self.case.k, &self.case);
         let theirs = with_k!(k, rust(c));
-        let (table, added) = match self.table.take() {
+        let (table, added, at_once) = match self.table.take() {
             Some(grown) if self.is_dear() => grown,
-            _ => grown(c),
+            _ => {
+                let (table, added) = grown(c);
+                let at_once = grown_at_once(c, &table);
+                (table, added, at_once)
+            }
         };
         let (took, fasta) = contracted(c, &table);
         assert!(fasta == theirs.2, "the lists differ: K {k}, {}, {}", c.n, c.name);
-        let mine = (added, took, fasta);
-        self.table = Some((table, added));
+        let mine = (added, took, fasta, at_once);
+        self.table = Some((table, added, at_once));
         self.least = Some(match self.least.take() {
             None => (theirs, mine),
             Some(least) => (lesser(least.0, theirs), lesser(least.1, mine)),
@@ -190,8 +213,8 @@ impl Row {
         let c = &self.case;
         let windows: usize = c.labels.iter().map(|l| l.len() + 1 - c.k).sum();
         println!(
-            "| {} | {} | {} | {:.2} | {:.2} | {:.2} | {:.0}, {:.0} |",
-            c.k, c.n, c.name, mine.0 / theirs.0, mine.1 / theirs.1, (mine.0 + mine.1) / (theirs.0 + theirs.1), theirs.0 / windows as f64, theirs.1 / c.n as f64
+            "| {} | {} | {} | {:.2} | {:.2} | {:.2} | {:.2} | {:.0}, {:.0} |",
+            c.k, c.n, c.name, mine.0 / theirs.0, mine.3 / theirs.3, mine.1 / theirs.1, (mine.0 + mine.1) / (theirs.0 + theirs.1), theirs.0 / windows as f64, theirs.1 / c.n as f64
         );
     }
 }
@@ -208,8 +231,8 @@ pub fn main() {
             }
         }
     }
-    println!("| K | vertices | labels | adding | contraction | both | Rust: ns a window, ns a vertex |");
-    println!("|---|---|---|---|---|---|---|");
+    println!("| K | vertices | labels | adding | by one call | contraction | both | Rust: ns a window, ns a vertex |");
+    println!("|---|---|---|---|---|---|---|---|");
     for row in &rows {
         row.print();
     }

@@ -70,6 +70,34 @@ int main(void) {
     same_bytes("the keys after refusals", keys, keys_before, sizeof keys);
     same_bytes("the counts after refusals", counts, counts_before, sizeof counts);
 
+    /* Both labels of P11's kind by one call: the first is added, the second refused, and the third not tried. */
+    const uint8_t text[] = {'A', 'C', 'C', 'C', 'C', 'A', 'C', 'C', 'N', 'A', 'C', 'C'};
+    const uint32_t from[] = {0, 5, 9}, size[] = {5, 4, 3};
+    uint64_t many_keys[32], totals[3] = {UNTOUCHED, UNTOUCHED, UNTOUCHED};
+    uint32_t many_counts[16];
+    memset(many_keys, 0, sizeof many_keys);
+    memset(many_counts, 0, sizeof many_counts);
+    same("adding three labels",
+         lash_add_labels(3, 0, many_keys, LEN(many_keys), many_counts, LEN(many_counts), text, LEN(text), from, LEN(from), size, LEN(size),
+                         3, totals, LEN(totals), figures, LEN(figures)), 3);
+    same("the labels added", totals[0], 1);
+    same("the number stored after them", totals[1], 2);
+    same("the cell past the totals", totals[2], UNTOUCHED);
+    same("the refused label's place", figures[0], 3);
+    same("its byte", figures[1], 78);
+    same_bytes("the keys after one label", many_keys, keys, sizeof keys);
+    same_bytes("the counts after one label", many_counts, counts, sizeof counts);
+    same("adding past the text",
+         lash_add_labels(3, 2, many_keys, LEN(many_keys), many_counts, LEN(many_counts), text, LEN(text) - 1, from, LEN(from), size, LEN(size),
+                         3, totals, LEN(totals), figures, LEN(figures)), 12);
+    same("the labels added then", totals[0], 0);
+    same("the number stored then", totals[1], 2);
+    same("adding past the index",
+         lash_add_labels(3, 2, many_keys, LEN(many_keys), many_counts, LEN(many_counts), text, LEN(text), from, LEN(from), size, LEN(size),
+                         4, totals, LEN(totals), figures, LEN(figures)), 12);
+    same_bytes("the keys after 12", many_keys, keys, sizeof keys);
+    same_bytes("the counts after 12", many_counts, counts, sizeof counts);
+
     /* Other refusals, and figures without room. */
     same("contracting at K = 64",
          lash_contract(64, 1, n, keys, LEN(keys), counts, LEN(counts), labels, LEN(labels), starts, LEN(starts), lengths, LEN(lengths),

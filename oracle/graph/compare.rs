@@ -1,6 +1,7 @@
 // Compares the calls of this library, linked through its C interface, with the original, case by case: the answer to each label and the table
-// after it, then contraction's totals, label bytes, index and marks, and the FASTA. `compare FIRST NUMBER` tries NUMBER cases of each kind from
-// FIRST on, prints how many were tried and each that differs, and exits with 1 if one did.
+// after it, the same by one call for all labels up to the first that is refused, then contraction's totals, label bytes, index and marks, and the
+// FASTA. `compare FIRST NUMBER` tries NUMBER cases of each kind from FIRST on, prints how many were tried and each that differs, and exits with 1 if
+// one did.
 use crate::cases::{self, Table};
 use crate::judge::{self, File};
 use crate::library::*;
@@ -43,6 +44,29 @@ impl Ours {
             self.n = figures[1] as usize;
         }
         (r, figures)
+    }
+
+    // Labels by one call, a byte that is no base before each: what is returned, the totals and the figures. The last one's entry is longer by `past`.
+    fn add_all(&mut self, labels: &[Vec<u8>], past: u32) -> (u32, [u64; 2], [u64; 2]) {
+        let (mut text, mut starts, mut lengths) = (vec![], vec![], vec![]);
+        for label in labels {
+            text.push(FREE);
+            starts.push(text.len() as u32);
+            lengths.push(label.len() as u32);
+            text.extend(label);
+        }
+        if let Some(last) = lengths.last_mut() {
+            *last += past;
+        }
+        let (mut totals, mut figures) = ([0; 2], [0; 2]);
+        let r = unsafe {
+            lash_add_labels(
+                self.k, self.n, self.keys.as_mut_ptr(), self.keys.len(), self.counts.as_mut_ptr(), self.counts.len(), text.as_ptr(), text.len(),
+                starts.as_ptr(), starts.len(), lengths.as_ptr(), lengths.len(), labels.len(), totals.as_mut_ptr(), 2, figures.as_mut_ptr(), 2,
+            )
+        };
+        self.n = totals[1] as usize;
+        (r, totals, figures)
     }
 
     // The table, and that every cell behind it is as it was.
@@ -103,19 +127,41 @@ fn fasta(labels: &[u8], starts: &[u32], lengths: &[u32], count: usize, expected:
     loose && tight && (n == 0 || write(n - 1) == (11, 0, vec![FREE; n - 1]))
 }
 
+// The original's answer to a label, which it adds unless it is refused, and the figures.
+fn answer<const K: usize>(graph: &mut Graph<K>, label: &[u8], capacity: usize) -> (u32, [u64; 2]) {
+    match judge::refused(graph, label, capacity) {
+        None => (0, [graph.add(label).unwrap(), graph.len() as u64]),
+        Some(3) => {
+            let place = label.iter().position(|b| !b"ACGTUacgtu".contains(b)).unwrap();
+            (3, [place as u64, label[place] as u64])
+        }
+        Some(4) => (4, [label.len() as u64, 0]),
+        Some(n) => (n as u32, [0, 0]),
+    }
+}
+
+// All labels by one call, up to the first that is refused; none where the last entry lies past the text.
+fn together<const K: usize>(file: &File, capacity: usize) -> bool {
+    let (mut graph, mut ours) = (Graph::<K>::new(file.cutoff), Ours::new(K, capacity));
+    let past = file.labels.is_empty() || ours.add_all(&file.labels, 1) == (12, [0; 2], [0; 2]) && ours.holds(&graph.vertices());
+    let (mut added, mut last) = (0, (0, [0; 2]));
+    for label in &file.labels {
+        last = answer(&mut graph, label, capacity);
+        if last.0 != 0 {
+            break;
+        }
+        added += 1;
+    }
+    past && ours.add_all(&file.labels, 0) == (last.0, [added, graph.len() as u64], last.1) && ours.holds(&graph.vertices())
+}
+
 fn file_k<const K: usize>(file: &File, capacity: usize, scratch: &Path) -> bool {
+    if !together::<K>(file, capacity) {
+        return false;
+    }
     let (mut graph, mut ours) = (Graph::<K>::new(file.cutoff), Ours::new(K, capacity));
     for label in &file.labels {
-        let expected = match judge::refused(&graph, label, capacity) {
-            None => (0, [graph.add(label).unwrap(), graph.len() as u64]),
-            Some(3) => {
-                let place = label.iter().position(|b| !b"ACGTUacgtu".contains(b)).unwrap();
-                (3, [place as u64, label[place] as u64])
-            }
-            Some(4) => (4, [label.len() as u64, 0]),
-            Some(n) => (n as u32, [0, 0]),
-        };
-        if ours.add(label) != expected || !ours.holds(&graph.vertices()) {
+        if ours.add(label) != answer(&mut graph, label, capacity) || !ours.holds(&graph.vertices()) {
             return false;
         }
     }
@@ -130,7 +176,10 @@ fn file_k<const K: usize>(file: &File, capacity: usize, scratch: &Path) -> bool 
 fn same_file(bytes: &[u8], capacity: usize, scratch: &Path) -> bool {
     match judge::records(bytes) {
         Err(_) => true,
-        Ok(file) if !(1..=63).contains(&file.k) => Ours::new(file.k, capacity).add(b"ACGT") == (1, [file.k as u64, 0]),
+        Ok(file) if !(1..=63).contains(&file.k) => {
+            Ours::new(file.k, capacity).add(b"ACGT") == (1, [file.k as u64, 0])
+                && Ours::new(file.k, capacity).add_all(&[b"ACGT".to_vec()], 0) == (1, [0; 2], [file.k as u64, 0])
+        }
         Ok(file) => with_k!(file.k, file_k(&file, capacity, scratch)),
     }
 }
