@@ -10,6 +10,8 @@
  * none is named. A refusal changes no other lent memory, except that 8 and 9 set the first n marks to 0, and that
  * lash_add_labels writes its totals and keeps the labels that it added before.
  *
+ * The calls keep local arrays on the stack, adding up to 153 KiB and contraction 193 KiB: a stack of 256 KiB is enough.
+ *
  * A table of n vertices is keys, two words a vertex, low word first, and counts, one word of eight four-bit counters a vertex.
  * Its capacity is the least of half the keys' length, the counts' length and 65,536. An empty table is n = 0, whatever the
  * slices hold. It is fit if n is at most the capacity and the keys strictly ascend, are canonical and below 4 to the K.
@@ -43,10 +45,11 @@ uint32_t lash_add_label(size_t k, size_t n,
 /* Adds many labels to a table of n vertices: label i is the bytes of text from starts[i] on, lengths[i] of them, and the first count
  * entries are added in order, as by lash_add_label, until one is refused. The table is tested for fitness for the first label alone,
  * so that many short labels cost less than a call for each.
- * Totals, two cells: the labels added, and the number stored after them, the n of the next call; they are written whatever is returned.
+ * Totals, as many as have room: the labels added, and the number stored after them, the n of the next call; they are written
+ * whatever is returned. Where a label is refused, it is entry totals[0].
  * Returned, and in figures: what lash_add_label returns and notes for the last label that was tried; the labels before one that is
  * refused stay added. With a count of 0 nothing is tested, 0 is returned, and the figures are 0 and n.
- * Refusal before the first label:
+ * Refusal before the first label, and before all others:
  *   12  count past starts or lengths, or an entry past the text
  */
 uint32_t lash_add_labels(size_t k, size_t n,
@@ -61,7 +64,8 @@ uint32_t lash_add_labels(size_t k, size_t n,
 
 /* Contracts a table of n vertices; an edge is retained if its count is at least the cutoff. The labels' bases stand end to end
  * from the first byte of labels; starts and lengths list them in ascending byte order. The first n marks are 1 for a visited
- * vertex and 0 for another; their content before does not matter. The labels hold at most n times K bases together.
+ * vertex and 0 for another; their content before does not matter. There are at most n labels, and they hold at most n times K bases
+ * together.
  * Figures: the number of labels and the total of their bases.
  * Refusals, in the order in which they are tried:
  *   1  K outside 1..63; figure: K
@@ -80,7 +84,7 @@ uint32_t lash_contract(size_t k, uint32_t cutoff, size_t n,
                        uint64_t *figures, size_t figures_len);
 
 /* Writes ">0", newline, label, newline for each of the first count entries of starts and lengths, in order.
- * Figure: the number of bytes written.
+ * Figure: the number of bytes written, which is the labels' bases and 4 bytes a label.
  * Refusals, in the order in which they are tried:
  *   12  count past starts or lengths, or an entry past the labels
  *   11  the FASTA exceeds the slice out

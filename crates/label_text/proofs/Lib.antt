@@ -4,6 +4,7 @@ pub mod Cells
 pub mod Remaining
 pub mod Growing
 pub mod Steps
+pub mod Marks
 pub mod Turns
 pub mod Says
 pub mod Roundtrip

@@ -12,7 +12,7 @@ use Rattle.lemmas.proofs.Tests.{choose}
 use Rattle.dna.specs.Answer.{refuses, Filled}
 use Rattle.dna.proofs.Answers.{ungiven}
 use Rattle.label_file.specs.LabelFile.{holds, labelsFrom, fileOf, two}
-use Rattle.label_text.specs.Lines.{labelsIn}
+use Rattle.label_text.specs.Lines.{isMixed, labelsIn}
 use Rattle.label_text.specs.Packing.{labelRecord, labelRecords, headRecord, packed, packText, Packs}
 use Rattle.label_text.specs.declared.PackAnswer.the-variants as pack
 
@@ -64,16 +64,20 @@ pub packed-read-back : (K cutoff : ℕ) (text slice out : List ℕ) (n : ℕ) �
     → Packs (pack.Packed n) out (packText K cutoff text slice) → fileOf (take n out) ≡ holds K cutoff (labelsIn text)
 unfolding packText
 packed-read-back K cutoff text slice out n c =
-    choose (λ (f : Filled). Packs (pack.Packed n) out f → says) (ltb 16384 (length file)) (λ _. no-refusal 13 slice)
-    (λ t. choose (λ (f : Filled). Packs (pack.Packed n) out f → says) (ltb (length slice) (length file)) (λ _. no-refusal 9 slice)
+    choose Says (isMixed text) (λ _. no-refusal 3 slice)
+    (λ _. choose Says (ltb 16384 (length file)) (λ _. no-refusal 13 slice)
+    (λ t. choose Says (ltb (length slice) (length file)) (λ _. no-refusal 9 slice)
     (λ _ p. let e : n ≡ length file = cc (p .answer) in rw (e, p .slice, take-append-seam file (drop (length file) slice))
-    (read-back K cutoff (labelsIn text) c (ltb-false 16384 (length file) t))))
+    (read-back K cutoff (labelsIn text) c (ltb-false 16384 (length file) t)))))
   where
     file : List ℕ
     file = packed K cutoff (labelsIn text)
 
     says : Type 0
     says = fileOf (take n out) ≡ holds K cutoff (labelsIn text)
+
+    Says : Filled → Type 0
+    Says f = Packs (pack.Packed n) out f → says
 
     no-refusal : (r : ℕ) (slice : List ℕ) → Packs (pack.Packed n) out (record { answer = refuses r []; slice = slice }) → says
     no-refusal r slice p = ungiven n r [] (p .answer)

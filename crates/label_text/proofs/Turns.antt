@@ -5,7 +5,7 @@ use mathlib.Core.List.{List, [], _∷_}
 use Prim.Native.Nat.{ℕ, _+_, _-_, _<_}
 use native.Mathlib.Omega.{arith}
 use lib.ListN.{length, take, length-drop}
-use lib.Seq.{take-all, length-take-le}
+use lib.Seq.{length-take-le}
 use Rattle.dna.specs.Text.{over, part}
 use Rattle.label_text.specs.Lines.{isHeader, trimmed, linesFrom, filled, labelsIn}
 use Rattle.label_text.specs.Packing.{headRecord, packed}
@@ -14,6 +14,7 @@ use Rattle.label_text.specs.declared.Size.the-variants as files
 use Rattle.label_text.specs.declared.Step.{Step}
 use Rattle.label_text.specs.declared.Step.the-variants as step
 use Rattle.label_text.proofs.Breaks.{linesAt, lines-all, lines-none, lines-next}
+use Rattle.label_text.proofs.Marks.{text-all}
 use Rattle.label_text.proofs.Remaining.{left-end}
 
 -- The lines before place i are taken.
@@ -36,7 +37,7 @@ module _ (K cutoff : ℕ) (text : List ℕ) (fasta : Bool) where
       → out ≡ over (headRecord K cutoff) out₀ → Partly K cutoff text fasta out 7 0 0
   unfolding packed
   partly-none out₀ out f l e =
-      let t : fasta ≡ isHeader text = f ∙ ap isHeader (take-all (length text - 0) text (omega arith)) in
+      let t : fasta ≡ isHeader text = f ∙ ap isHeader (text-all text) in
       record {
         room = record {
           long = ap length e ∙ omega (arith, length-drop 7 out₀);

@@ -1,6 +1,6 @@
 -- The labels of a text that people write: FASTA, or one label a line. Assumes nothing.
 use Prim.Native.Nat.{ℕ, _-_}
-use mathlib.Core.Bool.{Bool, cond}
+use mathlib.Core.Bool.{Bool, false, cond, not, _&&_, _||_}
 use mathlib.Core.List.{List, [], _∷_, _++_}
 use lib.Dec.{eqb}
 use lib.ListN.{length, take, getD}
@@ -29,11 +29,20 @@ filled [] = []
 filled ([] ∷ ls) = filled ls
 filled ((b ∷ l) ∷ ls) = (b ∷ l) ∷ filled ls
 
+-- A header's first byte is among some.
+unfoldable pub hasMark : List ℕ → Bool
+hasMark [] = false
+hasMark (b ∷ s) = eqb b 62 || hasMark s
+
+-- A text that has such a byte and does not begin with it is neither FASTA nor labels, one a line.
+abbrev pub isMixed : List ℕ → Bool
+isMixed text = not (isHeader text) && hasMark text
+
 -- A text that begins with `>` is FASTA; in another each line is a label.
 unfoldable pub labelsIn : List ℕ → List (List ℕ)
 labelsIn text = let lines = linesFrom [] text in filled (cond (isHeader text) (sequences [] lines) lines)
 
 -- Opens this file's definitions to a proof that computes.
 unfoldable pub openLines : Unit {0}
-unfolding linesFrom sequences filled labelsIn
+unfolding linesFrom sequences filled hasMark labelsIn
 openLines = tt

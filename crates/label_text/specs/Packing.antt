@@ -7,7 +7,7 @@ use lib.Dec.{ltb}
 use lib.ListN.{length}
 use Rattle.dna.specs.Text.{bytes}
 use Rattle.dna.specs.Answer.{Answer, gives, refuses, Filled, fill}
-use Rattle.label_text.specs.Lines.{labelsIn}
+use Rattle.label_text.specs.Lines.{isMixed, labelsIn}
 use Rattle.label_text.specs.declared.PackAnswer.{PackAnswer}
 use Rattle.label_text.specs.declared.PackAnswer.the-variants as pack
 
@@ -32,15 +32,17 @@ labelRecords (l ∷ ls) = labelRecord l ++ labelRecords ls
 unfoldable pub packed : ℕ → ℕ → List (List ℕ) → List ℕ
 packed K cutoff labels = headRecord K cutoff ++ labelRecords labels
 
--- A text's label file in a slice, or that it exceeds 16,384 bytes or the slice.
+-- A text's label file in a slice, or that the text is mixed, or that the file exceeds 16,384 bytes or the slice.
 unfoldable pub packText : ℕ → ℕ → List ℕ → List ℕ → Filled
 packText K cutoff text slice =
     let file = packed K cutoff (labelsIn text) in
-    cond (ltb 16384 (length file)) (record { answer = refuses 13 []; slice = slice }) (fill 9 file slice)
+    cond (isMixed text) (record { answer = refuses 3 []; slice = slice })
+    (cond (ltb 16384 (length file)) (record { answer = refuses 13 []; slice = slice }) (fill 9 file slice))
 
 -- The bytes of the file, or why none were written.
 abbrev pub packAnswer : PackAnswer → Answer ℕ
 packAnswer (pack.Packed n) = gives n
+packAnswer pack.Mixed = refuses 3 []
 packAnswer pack.TooLarge = refuses 13 []
 packAnswer pack.NoRoom = refuses 9 []
 

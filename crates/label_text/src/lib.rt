@@ -4,9 +4,11 @@ mod packing;
 
 pub use packing::pack;
 
-// The bytes of the label file; that it would be over 16,384 bytes; that the slice is too short for it.
+// The bytes of the label file; that the text has a `>` and does not begin with one, so that it is neither FASTA nor labels, one a line; that
+// the file would be over 16,384 bytes; that the slice is too short for it.
 pub enum PackAnswer {
     Packed(usize),
+    Mixed,
     TooLarge,
     NoRoom,
 }

@@ -3,7 +3,7 @@ ghost use mathlib.Core.Path.{_≡_};
 ghost use Prim.Native.Nat.{_-_, _≤_};
 ghost use lib.ListN.{length};
 ghost use Rattle.dna.specs.Text.{part};
-ghost use Rattle.label_text.specs.Lines.{isHeader, trimmed};
+ghost use Rattle.label_text.specs.Lines.{isHeader, hasMark, isMixed, trimmed};
 ghost use Rattle.label_text.specs.Says.{EndsLine};
 
 // Where the line that begins at a place ends: at the next newline, or with the text.
@@ -43,4 +43,28 @@ pub(crate) fn is_header(text: &[u8], at: usize, end: usize) -> bool
         return text[at] == b'>';
     }
     false
+}
+
+// A header's first byte stands somewhere.
+fn has_mark(text: &[u8]) -> bool
+    ensures { λ r. ⌜ r ≡ hasMark (now (text .entry)) ⌝ }
+{
+    let mut i = 0;
+    while i < text.len() {
+        if text[i] == b'>' {
+            return true;
+        }
+        i += 1;
+    }
+    false
+}
+
+// Such a byte, but not at the beginning.
+pub(crate) fn is_mixed(text: &[u8]) -> bool
+    ensures { λ r. ⌜ r ≡ isMixed (now (text .entry)) ⌝ }
+{
+    if is_header(text, 0, text.len()) {
+        return false;
+    }
+    has_mark(text)
 }

@@ -112,6 +112,9 @@ fn pack_lines(text: &[u8], k: u8, cutoff: u32, out: &mut [u8]) -> Size
 pub fn pack(text: &[u8], k: u8, cutoff: u32, out: &mut [u8]) -> PackAnswer
     ensures { λ r. ⌜ Packs r (now (out .exit)) (packText k cutoff (now (text .entry)) (now (out .entry))) ⌝ }
 {
+    if lines::is_mixed(text) {
+        return PackAnswer::Mixed;
+    }
     let mut file = [0u8; 16384];
     let Size::Is(n) = pack_lines(text, k, cutoff, &mut file) else {
         return PackAnswer::TooLarge;

@@ -51,6 +51,10 @@ fn argument(i: usize, most: u32) -> Number
     number_of(&space[..n], most)
 }
 
+fn mixed() {
+    complain(b"labels: the text has a '>' and does not begin with one\n");
+}
+
 fn too_large() {
     complain(b"labels: the label file would be over 16384 bytes\n");
 }
@@ -66,6 +70,7 @@ fn pack(text: &[u8], k: u8, cutoff: u32) {
     let mut file = [0u8; 16384];
     match label_text::pack(text, k, cutoff, &mut file) {
         PackAnswer::Packed(n) => print(&file[..n]),
+        PackAnswer::Mixed => mixed(),
         PackAnswer::TooLarge => too_large(),
         PackAnswer::NoRoom => too_large(),
     }
