@@ -39,21 +39,20 @@ module _ (K : ℕ) where
   module _ (i edges stored : ℕ) (keys counts label : List ℕ) (ls : List (List ℕ)) {r : AddAnswer} {keys′ counts′ : List ℕ}
       (a : Adds r keys′ counts′ (addLabel fourBits sameCanonical K stored keys counts label)) where
     -- It is added.
-    each-more : (e m : ℕ) → r ≡ add.Added e m → each (state i edges stored keys counts) (label ∷ ls) ≡ each (state (i + 1) e m keys′ counts′) ls
-    unfolding addEach addNext
-    each-more e m q =
-        let h : addLabel fourBits sameCanonical K stored keys counts label .answer ≡ gives (record { edges = e; stored = m }) =
-        sym (a .answer) ∙ ap addAnswer q in
-        rw (h, addNext, add-one, a .keys-after, a .counts-after)
+    module _ (e m : ℕ) (q : r ≡ add.Added e m) where
+      answered : addLabel fourBits sameCanonical K stored keys counts label .answer ≡ gives (record { edges = e; stored = m })
+      answered = sym (a .answer) ∙ ap addAnswer q
 
-    -- It leaves a fit table.
-    more-ready : (e m : ℕ) → r ≡ add.Added e m → Ready K m keys′ counts′
-    more-ready e m q =
-        let h : addLabel fourBits sameCanonical K stored keys counts label .answer ≡ gives (record { edges = e; stored = m }) =
-        sym (a .answer) ∙ ap addAnswer q in (
-          accepted fourBits sameCanonical K stored keys counts label _ h .ok,
-          rw (a .keys-after, a .counts-after) (accepted-fit fourBits sameCanonical K stored keys counts label _ h),
-        )
+      each-more : each (state i edges stored keys counts) (label ∷ ls) ≡ each (state (i + 1) e m keys′ counts′) ls
+      unfolding addEach addNext
+      each-more = rw (answered, addNext, add-one, a .keys-after, a .counts-after)
+
+      -- It leaves a fit table.
+      more-ready : Ready K m keys′ counts′
+      more-ready = (
+        accepted fourBits sameCanonical K stored keys counts label _ answered .ok,
+        rw (a .keys-after, a .counts-after) (accepted-fit fourBits sameCanonical K stored keys counts label _ answered),
+      )
 
     -- It is refused, and no other is tried.
     each-ends : (n x : ℕ) (vs : List ℕ) → addAnswer r ≡ refuses x vs

@@ -6,7 +6,7 @@ use Prim.Native.Nat.{ℕ, zero, suc, _+_, _-_, _*_, _/_, _%_, _^_, _<_, _≤_}
 use native.Mathlib.Nat.{pow-succ', mul-comm, add-comm, mod-lt, div-add-mod', div-lt-iff-lt-mul}
 use native.Mathlib.Numerals.{add-one}
 use native.Mathlib.Omega.{arith}
-use lib.Arith.{lt-one, digits-lt}
+use lib.Arith.{lt-one}
 use lib.Dec.{ltb}
 use borrow.Author.Tests.{leb-true, le-leb}
 use Rattle.lemmas.proofs.Numbers.{true-or-false}

@@ -1,6 +1,5 @@
 -- What an outcome says of the answer that it is of. Assumes nothing.
 use mathlib.Core.Path.{_≡_, refl}
-use mathlib.Core.List.{List}
 use Prim.Native.Nat.{ℕ}
 use native.Mathlib.Omega.{arith}
 use Rattle.dna.specs.Answer.{Answer, gives, refuses}
