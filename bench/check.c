@@ -98,6 +98,26 @@ int main(void) {
     same_bytes("the keys after 12", many_keys, keys, sizeof keys);
     same_bytes("the counts after 12", many_counts, counts, sizeof counts);
 
+    /* P1's table in room for two vertices is full for AAA; copied to room for three it takes it. AAA has no edge, and stands in no label; room
+     * for n times K bases and n entries is enough. */
+    const uint8_t aaa[] = {'A', 'A', 'A'};
+    uint64_t three_keys[6];
+    uint32_t three_counts[3];
+    same("adding AAA where there is no room", lash_add_label(3, n, keys, 2 * n, counts, n, aaa, LEN(aaa), figures, LEN(figures)), 6);
+    memcpy(three_keys, keys, 2 * n * sizeof *keys);
+    memcpy(three_counts, counts, n * sizeof *counts);
+    same("adding AAA where there is",
+         lash_add_label(3, n, three_keys, LEN(three_keys), three_counts, LEN(three_counts), aaa, LEN(aaa), figures, LEN(figures)), 0);
+    same("the number stored then", figures[1], 3);
+    same_bytes("the keys then", three_keys, (const uint64_t[]){0, 0, 5, 0, 21, 0}, sizeof three_keys);
+    same_bytes("the counts then", three_counts, (const uint32_t[]){0, 0x00100000, 0x00100001}, sizeof three_counts);
+    same("contracting three vertices",
+         lash_contract(3, 1, 3, three_keys, LEN(three_keys), three_counts, LEN(three_counts), labels, 9, starts, 3, lengths, 3, marks, 3, figures,
+                       LEN(figures)), 0);
+    same("the number of labels then", figures[0], 1);
+    same_bytes("their bases then", labels, "ACCC", 4);
+    same_bytes("the marks then", marks, (const uint8_t[]){0, 1, 1}, 3);
+
     /* Other refusals, and figures without room. */
     same("contracting at K = 64",
          lash_contract(64, 1, n, keys, LEN(keys), counts, LEN(counts), labels, LEN(labels), starts, LEN(starts), lengths, LEN(lengths),

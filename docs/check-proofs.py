@@ -1,6 +1,7 @@
 #!/usr/bin/env python3
 """check-proofs.py: every name that docs/PROOFS.md gives with a file stands in that file, every must-fail edit it names is there, every edit that
-is there is named, and every public function of a library has its line of wrong programs.
+is there is named, every public function of a library has its line of wrong programs, and the definitions that docs/ARCHITECTURE.md lists have so
+many lines as it says.
 
 Reads the tables of docs/PROOFS.md: in a cell, the names in backquotes belong to the next path behind them. Exits 1 where one is missing.
 """
@@ -59,5 +60,19 @@ for edit in sorted(named ^ edits):
     complain(("no edit " if edit in named else "not named: the edit ") + edit)
 for function in sorted(set(public_functions()) - covered):
     complain("no wrong programs for " + function)
+
+
+def lines_in(path):
+    lines = [line.strip() for line in open(path, encoding="utf-8")]
+    return sum(1 for line in lines if line and not line.startswith(("--", "use ")))
+
+
+for line in open(os.path.join(root, "docs", "ARCHITECTURE.md"), encoding="utf-8"):
+    row = re.match(r"\| ([a-z_]+/specs): ([\w, ]+) \| (\d+) \|", line)
+    if row:
+        checked += 1
+        lines = sum(lines_in(os.path.join(root, "crates", row[1], name + ".antt")) for name in row[2].split(", "))
+        if lines != int(row[3]):
+            complain("%s: %s have %d lines" % (row[1], row[2], lines))
 print("%d names checked, %d missing" % (checked, missing))
 sys.exit(1 if missing else 0)

@@ -14,7 +14,8 @@
  *
  * A table of n vertices is keys, two words a vertex, low word first, and counts, one word of eight four-bit counters a vertex.
  * Its capacity is the least of half the keys' length, the counts' length and 65,536. An empty table is n = 0, whatever the
- * slices hold. It is fit if n is at most the capacity and the keys strictly ascend, are canonical and below 4 to the K.
+ * slices hold. It is fit if n is at most the capacity and the keys strictly ascend, are canonical and below 4 to the K. A full
+ * table goes on in larger slices: copy the first 2 n words of keys and n of counts.
  */
 #ifndef LASHGRANARY_H
 #define LASHGRANARY_H
@@ -65,7 +66,7 @@ uint32_t lash_add_labels(size_t k, size_t n,
 /* Contracts a table of n vertices; an edge is retained if its count is at least the cutoff. The labels' bases stand end to end
  * from the first byte of labels; starts and lengths list them in ascending byte order. The first n marks are 1 for a visited
  * vertex and 0 for another; their content before does not matter. There are at most n labels, and they hold at most n times K bases
- * together.
+ * together, so that this much room is never refused with 9.
  * Figures: the number of labels and the total of their bases.
  * Refusals, in the order in which they are tried:
  *   1  K outside 1..63; figure: K

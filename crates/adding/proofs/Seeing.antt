@@ -10,13 +10,13 @@ use lib.Seq.{length-take-le, take-length}
 use borrow.Author.Tests.{le-leb}
 use Rattle.lemmas.proofs.Numbers.{same-test}
 use Rattle.kmer.specs.Kmer.{okK, rc, canon, isCanon}
-use Rattle.kmer.specs.Calls.{validCall, canonCall}
+use Rattle.kmer.specs.Calls.{packCall, canonCall}
 use Rattle.kmer.specs.Says.{valueOf, kmerOf, Answers}
 use Rattle.kmer.specs.declared.Answered.{Answered}
 use Rattle.kmer.proofs.Wide.{value-back}
 use Rattle.kmer.proofs.Windows.{Bases, bases-take, bases-drop}
 use Rattle.kmer.proofs.Orders.{canon-test}
-use Rattle.kmer.proofs.Given.{valid-given, kmer-given}
+use Rattle.kmer.proofs.Given.{packs-given, kmer-given}
 use Rattle.graph.proofs.Adding.{window-lt}
 use Rattle.graph.specs.Sightings.{window}
 use Rattle.adding.specs.Says.{Given, Sees}
@@ -38,14 +38,14 @@ module _ {K : ℕ} {label : List ℕ} (g : Given K label) (i : ℕ) (h : i + K �
   window-bases = bases-take K (drop i label) (bases-drop i label (g .bases))
 
   -- Packed and turned to its canonical form, and compared with that.
-  module _ {x y : Answered} (p : Answers x (validCall K (take K (drop i label))))
+  module _ {x y : Answered} (p : Answers x (packCall K (take K (drop i label))))
       (q : Answers y (canonCall K (valueOf (x .kmer)))) where
     packed-is : valueOf (x .kmer) ≡ window K label i
     packed-is =
         let whole : take K (take K (drop i label)) ≡ take K (drop i label) =
         ap (λ (n : ℕ). take n (take K (drop i label))) (sym window-long) ∙ take-length (take K (drop i label)) in
         let b : Bases (take K (take K (drop i label))) = rw whole window-bases in
-        let e = valid-given K (take K (drop i label)) (ok-given g) (omega (arith, window-long)) b p in
+        let e = packs-given K (take K (drop i label)) (ok-given g) (omega (arith, window-long)) b p in
         value-back (window K label i) (ap (λ (a : Answered). a .kmer) e ∙ rw whole)
 
     canon-is : valueOf (y .kmer) ≡ canon K (window K label i)

@@ -16,7 +16,7 @@ pub(crate) fn see(k: usize, label: &[u8], o: usize) -> Seen
     ensures { λ r. ⌜ Sees k (now (label .entry)) o r ⌝ }
 {
     let e = o + k;
-    let x = Kmer::from_valid_ascii(k, &label[o..e]).kmer;
+    let x = Kmer::from_ascii(k, &label[o..e]).kmer;
     let c = x.canonical(k).kmer;
     Seen {
         kmer: c,

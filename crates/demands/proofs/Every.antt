@@ -1,5 +1,6 @@
--- For every file the program prints the line of a refusal, or the records of a list that meets demand 3. Assumes nothing.
-use mathlib.Core.Path.{_≡_, refl, ap, _∙_}
+-- For every file the program prints the line of a refusal, for a reason that fixes it, or the records of a list that meets demand 3. Assumes
+-- nothing.
+use mathlib.Core.Path.{_≡_, refl, sym, ap, _∙_}
 use mathlib.Core.Logic.{⊎-elim}
 use mathlib.Core.Bool.{true, cond}
 use mathlib.Core.List.{List, [], _∷_, _++_}
@@ -23,7 +24,8 @@ use Rattle.label_file.specs.LabelFile.{LabelFile, damaged, holds, fileOf}
 use Rattle.label_file.specs.Output.{Buffers, Left, withTable, withList, withText, decimal, refusal, refused, printed, listedAfter, listAll, output}
 use Rattle.label_file.specs.Output.{zeros, printing, unitigs}
 use Rattle.demands.specs.Printed.{table, result, list, Prints, Prints.refusing, Prints.listing}
-use Rattle.demands.proofs.Program.{list-printed, list-inside, list-meets}
+use Rattle.demands.specs.Printed.{Refuses, Refuses.form, Refuses.bad-k, Refuses.label, Refuses.contraction, Refuses.text as exceeds}
+use Rattle.demands.proofs.Program.{list-printed, list-inside, list-meets, lists, program-prints}
 
 -- ---- the line of a refusal is short
 
@@ -61,43 +63,77 @@ list-refused p b c {t} given w h =
 
 -- ---- every file
 
+room : length (zeros .text) ≡ 8192
+room = length-replicate {A = ℕ} 8192 0
+
+-- The line of a refusal is printed whole.
+line : (r p : ℕ) (b : Buffers) → length (b .text) ≡ 8192 → printing (refused r p b) ≡ refusal r p
+line r p b l = refused-printed r p b (omega arith)
+
 module _ (file : List ℕ) where
   abbrev Fine : Left → Type 0
   Fine l = Prints file (printing l)
 
-  room : length (zeros .text) ≡ 8192
-  room = length-replicate {A = ℕ} 8192 0
+  module _ {K cutoff : ℕ} {labels : List (List ℕ)} (sound : fileOf file ≡ holds K cutoff labels) (ok : okK K ≡ true) where
+    abbrev p : ℕ
+    p = suc (table K labels .labels)
 
-  line : (r p : ℕ) (b : Buffers) → length (b .text) ≡ 8192 → Fine (refused r p b)
-  line r p b l = refusing r p (refused-printed r p b (omega arith))
+    abbrev c : Contracted
+    c = result K cutoff labels
 
-  module _ {K cutoff : ℕ} {labels : List (List ℕ)} (sound : fileOf file ≡ holds K cutoff labels) where
-    of-table : {e : Edges} → table K labels .answer ≡ gives e → (p : ℕ) (b : Buffers) → length (b .text) ≡ 8192
-        → (a : Answer Totals) → result K cutoff labels .answer ≡ a → Fine (listedAfter p b (result K cutoff labels))
+    of-table : {e : Edges} → table K labels .answer ≡ gives e → (b : Buffers) → length (b .text) ≡ 8192
+        → (a : Answer Totals) → c .answer ≡ a → Fine (listedAfter p b c)
     unfolding listedAfter
-    of-table added p b l (gives t) given =
-        let c = result K cutoff labels in
+    of-table added b l (gives t) given =
         let all = recordsOf (list K cutoff labels (t .labels)) in
         let w = list-inside K cutoff labels given in
-        ⊎-elim (λ (h : length (b .text) < length all). rw (list-refused p b c given w h) (line 11 p (withList b c) l))
-        (λ h. listing sound added given (list-printed p b c given w h) (list-meets K cutoff labels given)) (lt-or-ge (length (b .text)) (length all))
-    of-table added p b l (refuses r vs) e = rw (e, listedAfter) (line r p (withList b (result K cutoff labels)) l)
+        ⊎-elim (λ (h : length (b .text) < length all). rw (list-refused p b c given w h)
+        (refusing (exceeds sound ok added given (omega arith)) (line 11 p (withList b c) l)))
+        (λ h. listing sound ok added given (omega arith) (list-printed p b c given w h) (list-meets K cutoff labels given))
+        (lt-or-ge (length (b .text)) (length all))
+    of-table added b l (refuses r vs) e = rw (e, listedAfter) (refusing (contraction sound ok added e) (line r p (withList b c) l))
 
     of-labels : Fine (listAll K cutoff labels zeros)
     unfolding listAll
     of-labels =
         let s = table K labels in
         let b = withTable zeros (s .keys) (s .counts) in
-        either Fine (s .answer) (λ _ added. of-table added (suc (s .labels)) b room (result K cutoff labels .answer) refl)
-        (λ r vs _. line r (suc (s .labels)) b room)
+        either Fine (s .answer) (λ _ added. of-table added b room (c .answer) refl) (λ r vs h. refusing (label sound ok h) (line r p b room))
 
   of-file : (f : LabelFile) → fileOf file ≡ f → Fine (elim f [
     | damaged i ↦ refused 13 i zeros
     | holds K cutoff labels ↦ cond (okK K) (listAll K cutoff labels zeros) (refused 1 0 zeros)
   ])
-  of-file (damaged i) e = line 13 i zeros room
-  of-file (holds K cutoff labels) e = choose Fine (okK K) (λ _. of-labels e) (λ _. line 1 0 zeros room)
+  of-file (damaged i) e = refusing (form e) (line 13 i zeros room)
+  of-file (holds K cutoff labels) e =
+      choose Fine (okK K) (λ ok. of-labels e ok) (λ bad. refusing (bad-k e bad) (line 1 0 zeros room))
 
   pub program-says : Prints file (unitigs file)
   unfolding output
   program-says = of-file (fileOf file) refl
+
+  -- ---- and nothing else
+
+  refuses-so : {r p : ℕ} → Refuses file r p → unitigs file ≡ refusal r p
+  unfolding output listAll listedAfter
+  refuses-so (form {i} e) = rw (e, output) (line 13 i zeros room)
+  refuses-so (bad-k e bad) = rw (e, output, bad) (line 1 0 zeros room)
+  refuses-so (label {K} {labels = labels} e ok {r} h) =
+      let s = table K labels in
+      rw (e, output, ok, h, listAll) (line r (suc (s .labels)) (withTable zeros (s .keys) (s .counts)) room)
+  refuses-so (contraction {K} {cutoff} {labels} e ok added {r} h) =
+      let s = table K labels in
+      ap printing (lists file e ok added)
+      ∙ rw (h, listedAfter) (line r (suc (s .labels)) (withList (withTable zeros (s .keys) (s .counts)) (result K cutoff labels)) room)
+  refuses-so (exceeds {K} {cutoff} {labels} e ok added {t} given h) =
+      let s = table K labels in
+      let b = withTable zeros (s .keys) (s .counts) in
+      let q = result K cutoff labels in
+      ap printing (lists file e ok added)
+      ∙ ap printing (list-refused (suc (s .labels)) b q given (list-inside K cutoff labels given) (omega (arith, room)))
+      ∙ line 11 (suc (s .labels)) (withList b q) room
+
+  -- So `Prints` allows one text for each file.
+  pub program-only : {text : List ℕ} → Prints file text → text ≡ unitigs file
+  program-only (refusing why e) = e ∙ sym (refuses-so why)
+  program-only (listing sound ok added given fits e met) = e ∙ sym (program-prints file sound ok added given fits .0)

@@ -1,21 +1,121 @@
--- P4's labels, CAT and ATG, by one call of `add_labels`: the premise of demand 3 is met, computed. Assumes nothing.
-use mathlib.Core.Path.{refl}
-use mathlib.Core.List.{[], _∷_}
+-- Runs that meet what the theorems ask, computed: a table by one call, one moved to larger slices and contracted, one through C; and files that
+-- the program refuses. Assumes nothing.
+use Prim.Native.Nat.{ℕ}
+use mathlib.Core.Path.{_≡_, refl}
+use mathlib.Core.Logic.{inl}
+use mathlib.Core.Bool.{true}
+use mathlib.Core.List.{List, [], _∷_, _++_}
+use native.Mathlib.Omega.{arith}
+use lib.ListN.{getD, replicate}
 use Rattle.dna.specs.Text.{bytes, openText}
 use Rattle.dna.specs.Letters.{openLetters}
+use Rattle.dna.specs.Order.{openOrder}
 use Rattle.kmer.specs.Kmer.{openKmer}
-use Rattle.state.specs.Counted.{openCounted}
-use Rattle.graph.specs.Table.{openTable}
+use Rattle.state.specs.Counted.{fourBits, openCounted}
+use Rattle.graph.specs.Table.{tableOf, keysOf, openTable}
 use Rattle.graph.specs.Sightings.{openSightings}
 use Rattle.graph.specs.Adding.{openAdding}
-use Rattle.graph.specs.Entries.{openEntries}
+use Rattle.graph.specs.Entries.{listed, openEntries}
 use Rattle.graph.specs.Several.{openSeveral}
+use Rattle.graph.specs.Walks.{isolated, openWalks}
+use Rattle.graph.specs.Labels.{openLabels}
+use Rattle.graph.specs.Contraction.{endsIn, contract, openContraction}
 use Rattle.adding.specs.declared.AddAnswer.the-variants.{Added}
 use Rattle.adding.specs.declared.LabelsAnswer.the-variants.{Tried}
-use Rattle.demands.specs.Calls.{Called, Called.fresh, Called.adds-many}
+use Rattle.contraction.specs.declared.ContractAnswer.the-variants.{Contracted}
+use Rattle.contraction.specs.Says.{Contracts}
+use Rattle.capi.specs.Says.{noted}
+use Rattle.label_file.specs.LabelFile.{openLabelFile}
+use Rattle.laws.specs.Windows.{occurrences}
+use Rattle.laws.specs.Demand.{Demand3}
+use Rattle.demands.specs.Calls.{Called, Called.fresh, Called.adds, Called.adds-many, Called.moves}
+use Rattle.demands.specs.Printed.{Refuses, Refuses.form, Refuses.bad-k, Refuses.label}
+use Rattle.demands.proofs.Meets.{call-isolated}
+use Rattle.demands.proofs.ThroughC.{c-called, c-meets}
 
+-- P4's labels, CAT and ATG, by one call of `add_labels`.
 pub p4-called : Called 2 (bytes "ATG" ∷ bytes "CAT" ∷ []) 2 (3 ∷ 0 ∷ 4 ∷ 0 ∷ []) (0x01000010 ∷ 0x20000000 ∷ [])
 unfolding openText openLetters openKmer openCounted openTable openSightings openAdding openEntries openSeveral
 p4-called =
     adds-many (fresh (9 ∷ 9 ∷ 9 ∷ 9 ∷ []) (7 ∷ 7 ∷ [])) (bytes "CATATG") (0 ∷ 3 ∷ []) (3 ∷ 3 ∷ []) 2 {r = Tried 2 2 (Added 1 2)}
     (record { says = (refl, refl, refl); keys-after = refl; counts-after = refl })
+
+-- P1's label in room for two vertices, copied with room for three, and AAA added there: in the first slices it is refused with 6.
+pub p1-moved : Called 3 (bytes "AAA" ∷ bytes "ACCCC" ∷ []) 3 (0 ∷ 0 ∷ 5 ∷ 0 ∷ 21 ∷ 0 ∷ []) (0 ∷ 0x00100000 ∷ 0x00100001 ∷ [])
+unfolding openText openLetters openKmer openCounted openTable openSightings openAdding openEntries openSeveral
+p1-moved =
+    adds
+    (moves
+    (adds (fresh (9 ∷ 9 ∷ 9 ∷ 9 ∷ []) (7 ∷ 7 ∷ [])) (bytes "ACCCC") {r = Added 2 2} (record { answer = refl; keys-after = refl; counts-after = refl }) refl)
+    (5 ∷ 0 ∷ 21 ∷ 0 ∷ 8 ∷ 8 ∷ []) (0x00100000 ∷ 0x00100001 ∷ 6 ∷ []) refl)
+    (bytes "AAA") {r = Added 0 3} (record { answer = refl; keys-after = refl; counts-after = refl }) refl
+
+-- ---- that table contracted, in room for n times K bases and n entries
+
+abbrev keys : List ℕ
+keys = 0 ∷ 0 ∷ 5 ∷ 0 ∷ 21 ∷ 0 ∷ []
+
+abbrev counts : List ℕ
+counts = 0 ∷ 0x00100000 ∷ 0x00100001 ∷ []
+
+abbrev zeros : ℕ → List ℕ
+zeros n = replicate n 0
+
+pub p1-contracted : Contracts (Contracted 1 4) (bytes "ACCC" ++ zeros 5) (zeros 3) (4 ∷ 0 ∷ 0 ∷ []) (0 ∷ 1 ∷ 1 ∷ [])
+    (contract fourBits 3 1 3 keys counts (zeros 9) (zeros 3) (zeros 3) (zeros 3))
+unfolding openText openLetters openOrder openKmer openCounted openTable openWalks openLabels openContraction
+p1-contracted = record { answer = refl; labels-after = refl; starts-after = refl; lengths-after = refl; marks-after = refl }
+
+-- AAA is isolated, so that it stands in no label.
+p1-isolated : isolated (endsIn fourBits 1 (tableOf 3 keys counts)) 0 ≡ true
+unfolding openKmer openCounted openTable openWalks openContraction
+p1-isolated = refl
+
+pub p1-absent : occurrences 3 (getD (keysOf 3 keys) 0 0) (listed 1 (bytes "ACCC" ++ zeros 5) (zeros 3) (4 ∷ 0 ∷ 0 ∷ [])) ≡ 0
+p1-absent =
+    call-isolated 3 1 3 keys counts (zeros 9) (zeros 3) (zeros 3) (zeros 3) p1-contracted refl p1-moved (inl refl) 0 (omega arith) p1-isolated
+
+-- ---- through C
+
+abbrev keys₂ : List ℕ
+keys₂ = 5 ∷ 0 ∷ 21 ∷ 0 ∷ []
+
+abbrev counts₂ : List ℕ
+counts₂ = 0x00100000 ∷ 0x00100001 ∷ []
+
+-- The figures are the edges and the number stored; of a third cell nothing is said.
+pub p1-through-c : Called 3 (bytes "ACCCC" ∷ []) 2 keys₂ counts₂
+unfolding openText openLetters openKmer openCounted openTable openSightings openAdding noted
+p1-through-c =
+    c-called 3 0 (9 ∷ 9 ∷ 9 ∷ 9 ∷ []) (7 ∷ 7 ∷ []) (bytes "ACCCC") {r = 0} {figures₀ = 8 ∷ 8 ∷ 8 ∷ []} {figures′ = 2 ∷ 2 ∷ 8 ∷ []}
+    (record { number = refl; figures-after = refl; keys-after = refl; counts-after = refl }) (fresh (9 ∷ 9 ∷ 9 ∷ 9 ∷ []) (7 ∷ 7 ∷ [])) refl
+    (omega arith)
+
+pub p1-met-through-c : Demand3 3 (keysOf 2 keys₂) (endsIn fourBits 1 (tableOf 2 keys₂ counts₂))
+    (listed 1 (bytes "ACCC" ++ zeros 2) (zeros 2) (4 ∷ 0 ∷ []))
+unfolding openText openLetters openOrder openKmer openCounted openTable openWalks openLabels openContraction noted
+p1-met-through-c =
+    c-meets 3 1 2 keys₂ counts₂ (zeros 6) (zeros 2) (zeros 2) (zeros 2) {r = 0} {marks′ = 1 ∷ 1 ∷ []} {figures₀ = zeros 2} {figures′ = 1 ∷ 4 ∷ []}
+    (record {
+      number = refl;
+      figures-after = refl;
+      labels-after = refl;
+      starts-after = refl;
+      lengths-after = refl;
+      marks-after = refl;
+    }) p1-through-c refl (omega arith)
+
+-- ---- files that are refused
+
+-- An empty file; K of 0; a letter that is no base in the first label.
+pub refused-form : Refuses [] 13 0
+unfolding openLabelFile
+refused-form = form refl
+
+pub refused-k : Refuses (bytes "KC" ++ (0 ∷ 1 ∷ 0 ∷ 0 ∷ 0 ∷ [])) 1 0
+unfolding openText openLabelFile
+refused-k = bad-k refl refl
+
+pub refused-label : Refuses (bytes "KC" ++ (3 ∷ 1 ∷ 0 ∷ 0 ∷ 0 ∷ []) ++ bytes "LB" ++ (4 ∷ 0 ∷ []) ++ bytes "ACCN") 3 1
+unfolding openText openLabelFile openLetters openKmer openCounted openTable openSightings openAdding openSeveral
+refused-label = label refl refl refl

@@ -2,4 +2,6 @@ pub mod Growing
 pub mod Meets
 pub mod Program
 pub mod Every
+pub mod Told
+pub mod ThroughC
 pub mod Example

@@ -1,14 +1,18 @@
 -- The customer's demand 3 as a fact about every run of the code: a table made by calls of `add_label` and `add_labels`, and a call of `contract`
 -- over it that is not refused. Assumes nothing.
 use mathlib.Core.Path.{_≡_, sym, ap, _∙_}
+use mathlib.Core.Bool.{true}
+use mathlib.Core.Logic.{_⊎_}
 use mathlib.Core.List.{List, []}
-use Prim.Native.Nat.{ℕ}
+use Prim.Native.Nat.{ℕ, _*_, _%_, _≤_, _<_}
+use lib.ListN.{length, getD}
 use Rattle.dna.specs.Answer.{gives, refuses}
 use Rattle.state.specs.Counted.{fourBits}
 use Rattle.graph.specs.Table.{tableOf, keysOf}
 use Rattle.graph.specs.Sightings.{sameCanonical}
 use Rattle.graph.specs.Adding.{addLabel}
 use Rattle.graph.specs.Entries.{listed}
+use Rattle.graph.specs.Walks.{isolated}
 use Rattle.graph.specs.Contraction.{Totals, Contracted, endsIn, contract}
 use Rattle.graph.proofs.Accepted.{refused-same}
 use Rattle.adding.specs.declared.AddAnswer.{AddAnswer}
@@ -16,13 +20,16 @@ use Rattle.adding.specs.Says.{addAnswer, Adds}
 use Rattle.contraction.specs.declared.ContractAnswer.{ContractAnswer}
 use Rattle.contraction.specs.declared.ContractAnswer.the-variants as answers
 use Rattle.contraction.specs.Says.{contractAnswer, Contracts}
-use Rattle.laws.specs.Grown.{Grown, Grown.fresh, Grown.accepts}
-use Rattle.laws.specs.Demand.{Always, Demand3}
+use Rattle.laws.specs.Grown.{Grown, Grown.fresh, Grown.accepts, Grown.moves}
+use Rattle.laws.specs.Windows.{occurrences}
+use Rattle.laws.specs.Demand.{Each, HoldsLive, Always, Demand3}
 use Rattle.laws.proofs.Demand.{demand3}
-use Rattle.laws.proofs.Listed.{contract-always}
+use Rattle.laws.proofs.Listed.{contract-always, contract-occurrences}
+use Rattle.laws.proofs.Returned.{contract-live, contract-marks, contract-few, contract-fits}
+use Rattle.laws.proofs.Isolated.{grown-isolated}
 use Rattle.laws.proofs.Found.{grown-contract}
 use Rattle.laws.proofs.Again.{contract-again}
-use Rattle.demands.specs.Calls.{Called, Called.fresh as start, Called.adds as next, Called.adds-many as several}
+use Rattle.demands.specs.Calls.{Called, Called.fresh as start, Called.adds as next, Called.adds-many as several, Called.moves as elsewhere}
 use Rattle.demands.proofs.Growing.{added-grown}
 
 -- What calls make is a grown table.
@@ -33,6 +40,7 @@ called-grown (next c l a {edges} {stored} e) =
     rw (a .keys-after, a .counts-after)
     (accepts (called-grown c) l (record { edges = edges; stored = stored }) (sym (a .answer) ∙ ap addAnswer e))
 called-grown (several c text starts lengths count a) = added-grown (called-grown c) text starts lengths count a
+called-grown (elsewhere c keys′ counts′ e) = moves (called-grown c) keys′ counts′ e
 
 -- A refused call leaves the table as it was.
 pub called-refused : {K : ℕ} {ls : List (List ℕ)} {n : ℕ} {keys counts : List ℕ} → Called K ls n keys counts
@@ -61,6 +69,22 @@ module _ (K cutoff n : ℕ) (keys counts labels starts lengths marks : List ℕ)
         rw (c .labels-after, c .starts-after, c .lengths-after)
         (contract-always fourBits K cutoff n keys counts labels starts lengths marks totals answered)
 
+    -- Every label holds a k-mer that is not isolated;
+    pub call-live : Each (HoldsLive K (keysOf n keys) (endsIn fourBits cutoff (tableOf n keys counts))) (listed number labels′ starts′ lengths′)
+    call-live =
+        rw (c .labels-after, c .starts-after, c .lengths-after)
+        (contract-live fourBits K cutoff n keys counts labels starts lengths marks totals answered)
+
+    -- a mark is 1 where its k-mer stands in a label, and else 0: it is how often the k-mer occurs;
+    pub call-marks : (v : ℕ) → v < n → getD marks′ v 0 ≡ occurrences K (getD (keysOf n keys) v 0) (listed number labels′ starts′ lengths′)
+    call-marks =
+        rw (c .labels-after, c .starts-after, c .lengths-after, c .marks-after)
+        (contract-marks fourBits K cutoff n keys counts labels starts lengths marks totals answered)
+
+    -- there are at most n labels, with at most n times K bases.
+    pub call-few : (number ≤ n) × (bases ≤ K * n)
+    call-few = contract-few fourBits K cutoff n keys counts labels starts lengths marks totals answered
+
     -- Over a table that calls have made: all of it.
     pub call-meets : {ls : List (List ℕ)} → Called K ls n keys counts
         → Demand3 K (keysOf n keys) (endsIn fourBits cutoff (tableOf n keys counts)) (listed number labels′ starts′ lengths′)
@@ -68,9 +92,23 @@ module _ (K cutoff n : ℕ) (keys counts labels starts lengths marks : List ℕ)
         rw (c .labels-after, c .starts-after, c .lengths-after)
         (demand3 (called-grown g) cutoff labels starts lengths marks totals answered)
 
+    -- Over such a table an isolated k-mer stands in a label only for even K and cutoff 2 or more.
+    pub call-isolated : {ls : List (List ℕ)} → Called K ls n keys counts → (K % 2 ≡ 1) ⊎ (cutoff ≤ 1)
+        → (v : ℕ) → v < n → isolated (endsIn fourBits cutoff (tableOf n keys counts)) v ≡ true
+        → occurrences K (getD (keysOf n keys) v 0) (listed number labels′ starts′ lengths′) ≡ 0
+    call-isolated g h v l i =
+        rw (c .labels-after, c .starts-after, c .lengths-after)
+        (contract-occurrences fourBits K cutoff n keys counts labels starts lengths marks totals answered (getD (keysOf n keys) v 0)
+        ∙ grown-isolated (called-grown g) cutoff h v l i)
+
   -- Over such a table no vertex is ever missing.
   pub call-finds : {ls : List (List ℕ)} → Called K ls n keys counts → r ≡ answers.MissingVertex → ⊥
   call-finds g e = grown-contract (called-grown g) cutoff labels starts lengths marks [] (sym (c .answer) ∙ ap contractAnswer e)
+
+  -- Room for n times K bases and n entries is always enough: it is never refused with 9.
+  pub call-fits : K * n ≤ length labels → n ≤ length starts → n ≤ length lengths → r ≡ answers.NoRoom → ⊥
+  call-fits b s l e =
+      contract-fits fourBits K cutoff n keys counts labels starts lengths marks b s l [] (sym (c .answer) ∙ ap contractAnswer e)
 
   -- A second call over what the first left answers the same and leaves the same.
   pub call-again : {s : ContractAnswer} {labels″ starts″ lengths″ marks″ : List ℕ}

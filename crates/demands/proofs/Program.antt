@@ -56,7 +56,7 @@ module _ (K cutoff : ℕ) (labels : List (List ℕ)) {t : Totals} (given : resul
       contract-within fourBits K cutoff (s .stored) (s .keys) (s .counts) (zeros .labels) (zeros .starts) (zeros .lengths) (zeros .marks) t given
 
 -- Where no label is refused, the program lists the table.
-lists : (file : List ℕ) {K cutoff : ℕ} {labels : List (List ℕ)} → fileOf file ≡ holds K cutoff labels → okK K ≡ true
+pub lists : (file : List ℕ) {K cutoff : ℕ} {labels : List (List ℕ)} → fileOf file ≡ holds K cutoff labels → okK K ≡ true
     → {e : Edges} → table K labels .answer ≡ gives e
     → (let s = table K labels in
     output zeros file ≡ listedAfter (suc (s .labels)) (withTable zeros (s .keys) (s .counts)) (result K cutoff labels))

@@ -6,6 +6,7 @@ use lib.ListN.{take}
 use Rattle.state.specs.Counted.{fourBits}
 use Rattle.graph.specs.Sightings.{sameCanonical}
 use Rattle.graph.specs.Adding.{addLabel}
+use Rattle.graph.specs.Table.{tableOf}
 use Rattle.graph.specs.Entries.{listed}
 use Rattle.graph.specs.Several.{addLabels}
 use Rattle.adding.specs.declared.AddAnswer.{AddAnswer}
@@ -39,3 +40,6 @@ pub data Called (K : ℕ) : List (List ℕ) → ℕ → List ℕ → List ℕ �
       → (text starts lengths : List ℕ) (count : ℕ) {r : LabelsAnswer} {keys′ counts′ : List ℕ}
       → AddsLabels n r keys′ counts′ (addLabels fourBits sameCanonical K n keys counts text starts lengths count)
       → Called K (onto (take (addedBy r) (listed count text starts lengths)) ls) (storedBy n r) keys′ counts′
+  -- The same vertices in other slices, as a caller copies them who was refused with 6.
+  moves : {ls : List (List ℕ)} {n : ℕ} {keys counts : List ℕ} → Called K ls n keys counts
+      → (keys′ counts′ : List ℕ) → tableOf n keys′ counts′ ≡ tableOf n keys counts → Called K ls n keys′ counts′

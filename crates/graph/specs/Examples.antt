@@ -2,6 +2,7 @@
 use Prim.Native.Nat.{ℕ, _+_, _*_, _^_}
 use Prim.Native.String.{String}
 use mathlib.Core.Path.{_≡_, refl}
+use mathlib.Core.Bool.{Bool, true, false}
 use mathlib.Core.List.{List, [], _∷_, _++_, map}
 use lib.ListN.{take, replicate}
 use Rattle.dna.specs.Text.{bytes, openText}
@@ -10,14 +11,15 @@ use Rattle.dna.specs.Letters.{openLetters}
 use Rattle.dna.specs.Order.{openOrder}
 use Rattle.kmer.specs.Kmer.{packed, openKmer}
 use Rattle.kmer.specs.Calls.{packCall, reverseCall, openCalls}
+use Rattle.state.specs.declared.Side.the-variants.{Back}
 use Rattle.state.specs.Counted.{fourBits, openCounted}
-use Rattle.graph.specs.Table.{keysOf, openTable}
+use Rattle.graph.specs.Table.{keysOf, tableOf, openTable}
 use Rattle.graph.specs.Sightings.{sameCanonical, openSightings}
 use Rattle.graph.specs.Adding.{Edges, addLabel, storedAfter, openAdding}
 use Rattle.graph.specs.Entries.{openEntries}
-use Rattle.graph.specs.Walks.{openWalks}
+use Rattle.graph.specs.Walks.{closed, walk, openWalks}
 use Rattle.graph.specs.Labels.{openLabels}
-use Rattle.graph.specs.Contraction.{Totals, contract, openContraction}
+use Rattle.graph.specs.Contraction.{Totals, endsIn, contract, openContraction}
 use Rattle.graph.specs.Fasta.{fasta, openFasta}
 
 -- An example: labels added in order at one K to an empty table that is then contracted at some cutoffs, or a text packed at
@@ -26,10 +28,10 @@ pub data Example : Type 0 where
   grow : ℕ → List String → List ℕ → Example
   turn : ℕ → String → Example
 
--- What comes of it: adding's answers, the stored k-mers, their counts and a FASTA text for each cutoff; or the packed
--- k-mer and its reverse complement.
+-- What comes of it: adding's answers, the stored k-mers, their counts, and for each cutoff a FASTA text and whether the Back walk of the first
+-- vertex closes a cycle; or the packed k-mer and its reverse complement.
 pub data Result : Type 0 where
-  grown : List (Answer Edges) → List ℕ → List ℕ → List (List ℕ) → Result
+  grown : List (Answer Edges) → List ℕ → List ℕ → List (List ℕ) → List Bool → Result
   turned : Answer ℕ → Answer ℕ → Result
 
 -- A table as lent, and the answers so far.
@@ -70,10 +72,15 @@ fastaAt K t cutoff =
     let f = fasta (c .labels) (c .starts) (c .lengths) (labelsIn (c .answer)) (replicate 60 0) in
     take (bytesIn (f .answer)) (f .slice)
 
+abbrev pub closesAt : ℕ → State → ℕ → Bool
+closesAt K t cutoff =
+    let table = tableOf (t .stored) (t .keys) (t .counts) in
+    closed (walk K (table .keys) (endsIn fourBits cutoff table) 0 Back (replicate (t .stored) 0) .last)
+
 abbrev pub resultOf : Example → Result
 resultOf (grow K labels cutoffs) =
     let t = addAll K empty labels in
-    grown (t .answers) (keysOf (t .stored) (t .keys)) (take (t .stored) (t .counts)) (map (fastaAt K t) cutoffs)
+    grown (t .answers) (keysOf (t .stored) (t .keys)) (take (t .stored) (t .counts)) (map (fastaAt K t) cutoffs) (map (closesAt K t) cutoffs)
 resultOf (turn K s) = turned (packCall K (bytes s)) (reverseCall K (packed (bytes s)))
 
 -- Edges and number stored.
@@ -94,46 +101,50 @@ examples =
     -- P1
     (
       grow 3 ("ACCCC" ∷ []) (1 ∷ []),
-      grown (edges 2 2 ∷ []) (kmers ("ACC" ∷ "CCC" ∷ [])) (0x00100000 ∷ 0x00100001 ∷ []) (texts (">0\nACCC\n" ∷ [])),
+      grown (edges 2 2 ∷ []) (kmers ("ACC" ∷ "CCC" ∷ [])) (0x00100000 ∷ 0x00100001 ∷ []) (texts (">0\nACCC\n" ∷ [])) (false ∷ []),
     )
     -- P2
     ∷ (
       grow 3 ("GGGGT" ∷ []) (1 ∷ []),
-      grown (edges 2 2 ∷ []) (kmers ("ACC" ∷ "CCC" ∷ [])) (0x00100000 ∷ 0x00000011 ∷ []) (texts (">0\nACC\n>0\nCCC\n" ∷ [])),
+      grown (edges 2 2 ∷ []) (kmers ("ACC" ∷ "CCC" ∷ [])) (0x00100000 ∷ 0x00000011 ∷ []) (texts (">0\nACC\n>0\nCCC\n" ∷ [])) (false ∷ []),
     )
     -- P3
     ∷ (
       grow 3 ("CAAAA" ∷ []) (1 ∷ []),
-      grown (edges 2 2 ∷ []) (kmers ("AAA" ∷ "CAA" ∷ [])) (0x00010010 ∷ 0x00010000 ∷ []) (texts (">0\nAAA\n>0\nCAA\n" ∷ [])),
+      grown (edges 2 2 ∷ []) (kmers ("AAA" ∷ "CAA" ∷ [])) (0x00010010 ∷ 0x00010000 ∷ []) (texts (">0\nAAA\n>0\nCAA\n" ∷ [])) (true ∷ []),
     )
     -- P4
     ∷ (
       grow 2 ("CAT" ∷ "ATG" ∷ []) (1 ∷ 2 ∷ 3 ∷ []),
       grown (edges 1 2 ∷ edges 1 2 ∷ []) (kmers ("AT" ∷ "CA" ∷ [])) (0x01000010 ∷ 0x20000000 ∷ [])
-          (texts (">0\nATG\n" ∷ ">0\nATG\n" ∷ "" ∷ [])),
+          (texts (">0\nATG\n" ∷ ">0\nATG\n" ∷ "" ∷ [])) (false ∷ false ∷ false ∷ []),
     )
     -- P5
     ∷ (
       grow 3 ("ACG" ∷ []) (1 ∷ 0 ∷ []),
-      grown (edges 0 1 ∷ []) (kmers ("ACG" ∷ [])) (0 ∷ []) (texts ("" ∷ ">0\nACG\n" ∷ [])),
+      grown (edges 0 1 ∷ []) (kmers ("ACG" ∷ [])) (0 ∷ []) (texts ("" ∷ ">0\nACG\n" ∷ [])) (false ∷ false ∷ []),
     )
     -- P6
     ∷ (
       grow 3 (replicate 16 "ACGG") (15 ∷ 16 ∷ []),
-      grown (replicate 16 (edges 1 2)) (kmers ("ACG" ∷ "CCG" ∷ [])) (0x0f000000 ∷ 0xf0000000 ∷ []) (texts (">0\nACGG\n" ∷ "" ∷ [])),
+      grown (replicate 16 (edges 1 2)) (kmers ("ACG" ∷ "CCG" ∷ [])) (0x0f000000 ∷ 0xf0000000 ∷ [])
+          (texts (">0\nACGG\n" ∷ "" ∷ [])) (false ∷ false ∷ []),
     )
     -- P7
     ∷ (
       grow 3 ("ATCATC" ∷ []) (1 ∷ []),
       grown (edges 3 3 ∷ []) (kmers ("ATC" ∷ "ATG" ∷ "TCA" ∷ [])) (0x00010010 ∷ 0x00010100 ∷ 0x10000001 ∷ [])
-          (texts (">0\nATCAT\n" ∷ [])),
+          (texts (">0\nATCAT\n" ∷ [])) (true ∷ []),
     )
     -- P8
-    ∷ (grow 3 ("ACCN" ∷ []) [], grown (refuses 3 (3 ∷ 78 ∷ []) ∷ []) [] [] [])
+    ∷ (grow 3 ("ACCN" ∷ []) [], grown (refuses 3 (3 ∷ 78 ∷ []) ∷ []) [] [] [] [])
     -- P9
-    ∷ (grow 3 ("AN" ∷ []) [], grown (edges 0 0 ∷ []) [] [] [])
+    ∷ (grow 3 ("AN" ∷ []) [], grown (edges 0 0 ∷ []) [] [] [] [])
     -- P10
-    ∷ (grow 1 ("AT" ∷ []) (1 ∷ []), grown (edges 1 1 ∷ []) (kmers ("A" ∷ [])) (0x10000000 ∷ []) (texts (">0\nA\n" ∷ [])))
+    ∷ (
+      grow 1 ("AT" ∷ []) (1 ∷ []),
+      grown (edges 1 1 ∷ []) (kmers ("A" ∷ [])) (0x10000000 ∷ []) (texts (">0\nA\n" ∷ [])) (false ∷ []),
+    )
     -- P11
     ∷ (turn 33 thirtyThree, turned (gives 0) (gives (0xffff_ffff_ffff_ffff + 2 ^ 64 * 3)))
     ∷ (turn 64 thirtyThree, turned (refuses 1 (64 ∷ [])) (refuses 1 (64 ∷ [])))

@@ -8,7 +8,8 @@ use lib.ListN.{length}
 use borrow.Author.Tests.{not-true, not-false, lt-ltb, le-ltb}
 use Rattle.dna.specs.Answer.{Answer, gives}
 use Rattle.dna.specs.Letters.{firstBad}
-use Rattle.kmer.specs.Kmer.{okK, packed, validPacked}
+use Rattle.kmer.specs.Kmer.{okK, packed}
+use Rattle.kmer.specs.Packing.{validPacked}
 use Rattle.kmer.specs.Calls.{withLetters, packBases}
 use Rattle.kmer.specs.Says.{kmerOf, saysThen, refusedBy, Answers}
 use Rattle.kmer.specs.declared.Kmer.{Kmer}

@@ -1,16 +1,15 @@
 -- For callers: what the calls that make a k-mer, and the one that writes its letters, return where nothing is refused. Assumes nothing.
 use mathlib.Core.Path.{_≡_, ap, _∙_}
 use mathlib.Core.Bool.{true, false}
-use mathlib.Core.List.{List, []}
+use mathlib.Core.List.{List}
 use Prim.Native.Nat.{ℕ, _^_, _<_, _≤_}
 use lib.Dec.{ltb}
 use lib.ListN.{length, take}
 use borrow.Author.Tests.{lt-ltb, le-ltb}
 use Rattle.dna.specs.Answer.{Answer, gives}
-use Rattle.dna.specs.Letters.{firstBad}
 use Rattle.dna.specs.Text.{over}
 use Rattle.kmer.specs.Kmer.{okK, packed, letters}
-use Rattle.kmer.specs.Calls.{onKmer, below, withLetters, packBases, packCall, validCall, lettersCall}
+use Rattle.kmer.specs.Calls.{onKmer, below, withLetters, packBases, packCall, lettersCall}
 use Rattle.kmer.specs.Says.{kmerOf, Answers, Spells}
 use Rattle.kmer.specs.declared.KmerAnswer.the-variants.{Done}
 use Rattle.kmer.specs.declared.Answered.{Answered}
@@ -18,8 +17,7 @@ use Rattle.kmer.specs.declared.LettersAnswer.{LettersAnswer}
 use Rattle.kmer.specs.declared.LettersAnswer.the-variants.{Written}
 use Rattle.kmer.proofs.Spelling.{length-letters}
 use Rattle.kmer.proofs.Windows.{Bases}
-use Rattle.kmer.proofs.Testing.{no-bad, no-bad-bases}
-use Rattle.kmer.proofs.Packing.{valid-packed}
+use Rattle.kmer.proofs.Testing.{no-bad}
 use Rattle.kmer.proofs.Telling.{lettersIn, kmer-told, letters-told}
 
 -- A call that was done, with the k-mer of a number beside it.
@@ -33,17 +31,6 @@ pub packs-given : {r : Answered} (K : ℕ) (s : List ℕ) → okK K ≡ true →
 unfolding packCall withLetters packBases
 packs-given K s ok h b t =
     kmer-told (simp (ok, le-ltb (length s) K h, no-bad 0 (take K s) b) at t)
-
--- Where no letter is bad, it makes no difference whether they are tested.
-pub valid-call : (K : ℕ) (s : List ℕ) → firstBad 0 (take K s) ≡ [] → validCall K s ≡ packCall K s
-unfolding validCall packCall packBases
-valid-call K s e = rw (e, valid-packed (take K s) (no-bad-bases 0 (take K s) e))
-
--- `from_valid_ascii`.
-pub valid-given : {r : Answered} (K : ℕ) (s : List ℕ) → okK K ≡ true → K ≤ length s → Bases (take K s) →
-    Answers r (validCall K s) →
-    r ≡ doneWith (packed (take K s))
-valid-given K s ok h b t = packs-given K s ok h b (rw (valid-call K s (no-bad 0 (take K s) b)) at t)
 
 module _ (K x : ℕ) (ok : okK K ≡ true) (h : x < 4 ^ K) where
   -- Neither 1 nor 14.

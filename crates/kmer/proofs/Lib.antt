@@ -1,6 +1,8 @@
 pub mod Wide
 pub mod Moves
 pub mod Turned
+pub mod Fields
+pub mod Bytes
 pub mod Swaps
 pub mod Halves
 pub mod Ahead
@@ -15,6 +17,9 @@ pub mod Strands
 pub mod Windows
 pub mod Testing
 pub mod Packing
+pub mod Gathering
+pub mod Passing
+pub mod Groups
 pub mod Calls
 pub mod Texts
 pub mod Given

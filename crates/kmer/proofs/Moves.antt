@@ -40,6 +40,17 @@ push-high w a l =
 pub up : (lo hi b : ℕ) → b < 4 → 4 * joined lo hi + b ≡ joined ((4 * lo + b) % 2 ^ 64) (4 * hi + lo / 2 ^ 62)
 up lo hi b h = let e = up-low lo b h in omega arith
 
+-- Eight bases in at the bottom of both words, where the high word has room.
+pub up-eight : (lo hi c : ℕ) → lo < 2 ^ 64 → hi < 2 ^ 48 → c < 2 ^ 16 →
+    joined (bitOr ((lo * 2 ^ 16) % 2 ^ 64) c) (bitOr ((hi * 2 ^ 16) % 2 ^ 64) (lo / 2 ^ 48)) ≡ joined lo hi * 2 ^ 16 + c
+up-eight lo hi c l h k =
+    let e : (lo * 2 ^ 16) % 2 ^ 64 ≡ lo % 2 ^ 48 * 2 ^ 16 =
+    mod-is (lo * 2 ^ 16) (2 ^ 64) (lo / 2 ^ 48) (lo % 2 ^ 48 * 2 ^ 16) (omega arith) (omega arith) in
+    let f : (hi * 2 ^ 16) % 2 ^ 64 ≡ hi * 2 ^ 16 = shl-exact 48 16 64 h (omega arith) in
+    ap₂ joined (ap (λ (x : ℕ). bitOr x c) e ∙ or-shifted (lo % 2 ^ 48) 16 c k)
+    (ap (λ (x : ℕ). bitOr x (lo / 2 ^ 48)) f ∙ or-shifted hi 16 (lo / 2 ^ 48) (omega arith))
+    ∙ omega arith
+
 -- Both words down a base.
 down : (lo hi : ℕ) → lo < 2 ^ 64 → joined lo hi / 4 ≡ joined (hi % 4 * 2 ^ 62 + lo / 4) (hi / 4)
 down lo hi h = div-is (joined lo hi) 4 (joined (hi % 4 * 2 ^ 62 + lo / 4) (hi / 4)) (lo % 4) (omega arith) (omega arith)

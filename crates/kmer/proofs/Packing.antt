@@ -1,19 +1,20 @@
--- Letters read by their bits alone: their number, word by word, and that of bases it is the packed number. Assumes nothing.
+-- Letters read by their bits alone: their number, and that of bases it is the packed number. Assumes nothing.
 use mathlib.Core.Path.{_≡_, refl, sym, ap, _∙_}
 use mathlib.Core.List.{List, [], _∷_, _++_, map, map-append}
-use Prim.Native.Nat.{ℕ, _+_, _-_, _*_, _%_, _^_, _<_, _≤_}
+use Prim.Native.Nat.{ℕ, _+_, _*_, _%_, _^_, _<_, _≤_}
 use native.Mathlib.Nat.{lt-of-lt-of-le, le-of-lt, mod-eq-of-lt, pow-le-pow-right, zero-lt-suc}
 use native.Mathlib.Numerals.{add-one}
 use native.Mathlib.Omega.{arith}
 use borrow.Author.Tests.{lt-ltb}
-use lib.ListN.{length, getD, take, drop, length-map, length-drop}
-use lib.Seq.{take-suc, take-add, length-take-le}
+use lib.ListN.{length, getD, take, length-map}
+use lib.Seq.{take-suc, length-take-le}
 use Rattle.dna.specs.Letters.{codeOf, validBits}
 use Rattle.dna.proofs.Letters.{code-letter, valid-code, valid-small}
-use Rattle.kmer.specs.Kmer.{onto, packed, baseIn, validPacked}
+use Rattle.kmer.specs.Kmer.{onto, packed}
+use Rattle.kmer.specs.Packing.{baseIn, validPacked}
 use Rattle.kmer.specs.Says.{kmerOf}
 use Rattle.kmer.proofs.Wide.{two-words}
-use Rattle.kmer.proofs.Windows.{Bases, packed-snoc, packed-append, packed-lt}
+use Rattle.kmer.proofs.Windows.{Bases, packed-append, packed-lt}
 
 code-in : (b : ℕ) → codeOf (baseIn b) ≡ validBits b
 code-in b = code-letter (validBits b) (le-of-lt (valid-small b))
@@ -33,12 +34,24 @@ onto-valid x (b ∷ s) h =
 pub valid-packed : (s : List ℕ) → Bases s → validPacked s ≡ packed s
 valid-packed s h = onto-valid 0 s h
 
--- ---- one word
+-- A text before another.
+pub valid-append : (s t : List ℕ) → validPacked (s ++ t) ≡ validPacked s * 4 ^ length t + validPacked t
+valid-append s t =
+    ap packed (map-append baseIn s t) ∙ packed-append (map baseIn s) (map baseIn t)
+    ∙ ap (λ (n : ℕ). validPacked s * 4 ^ n + validPacked t) (length-map t baseIn)
+
+pub valid-one : (b : ℕ) → validPacked (b ∷ []) ≡ validBits b
+unfolding onto
+valid-one b = omega (arith, code-in b)
+
+pub valid-lt : (s : List ℕ) → validPacked s < 4 ^ length s
+valid-lt s = rw (length-map s baseIn) at (packed-lt (map baseIn s) (bases-in s))
+
+-- ---- letter by letter, in one word
 
 -- Up to 32 letters have room in a word.
-word-lt : (s : List ℕ) → length s ≤ 32 → validPacked s < 2 ^ 64
-word-lt s h =
-    lt-of-lt-of-le (rw (length-map s baseIn) at (packed-lt (map baseIn s) (bases-in s))) (pow-le-pow-right (zero-lt-suc 3) h)
+pub word-lt : (s : List ℕ) → length s ≤ 32 → validPacked s < 2 ^ 64
+word-lt s h = lt-of-lt-of-le (valid-lt s) (pow-le-pow-right (zero-lt-suc 3) h)
 
 -- One letter more.
 pub word-more : (s : List ℕ) (i : ℕ) → length s ≤ 32 → i < length s →
@@ -46,33 +59,13 @@ pub word-more : (s : List ℕ) (i : ℕ) → length s ≤ 32 → i < length s �
 word-more s i l h =
     let more : take (i + 1) s ≡ take i s ++ (getD s i 0 ∷ []) = rw (add-one i) (take-suc s i 0 h) in
     let e : validPacked (take (i + 1) s) ≡ 4 * validPacked (take i s) + validBits (getD s i 0) =
-    ap validPacked more
-    ∙ ap packed (map-append baseIn (take i s) (getD s i 0 ∷ []))
-    ∙ packed-snoc (map baseIn (take i s)) (baseIn (getD s i 0))
-    ∙ ap (λ (c : ℕ). 4 * validPacked (take i s) + c) (code-in (getD s i 0)) in
+    ap validPacked more ∙ valid-append (take i s) (getD s i 0 ∷ []) ∙ omega (arith, valid-one (getD s i 0)) in
     let n : length (take (i + 1) s) ≡ i + 1 = length-take-le (i + 1) s (omega arith) in
     mod-eq-of-lt (rw e at (word-lt (take (i + 1) s) (omega arith))) ∙ sym e
 
--- ---- two words
-
-module _ (k : ℕ) (s : List ℕ) where
-  -- All letters stand in the low word.
-  pub pack-low : k ≤ 32 → k ≤ length s → record { words = validPacked (take k s) ∷ 0 ∷ [] } ≡ kmerOf (validPacked (take k s))
-  pack-low h l =
-      let n : length (take k s) ≡ k = length-take-le k s l in
-      sym (two-words (validPacked (take k s)) (validPacked (take k s)) 0 (omega arith) (word-lt (take k s) (omega arith)))
-
-  -- The last 32 stand in the low word, and the high word counts in units of 4 to the 32.
-  pub pack-both : 32 < k → k ≤ length s →
-      record { words = validPacked (take 32 (drop (k - 32) s)) ∷ validPacked (take (k - 32) s) ∷ [] } ≡ kmerOf (validPacked (take k s))
-  pack-both h l =
-      let m : k - 32 + 32 ≡ k = omega arith in
-      let d : 32 ≤ length (drop (k - 32) s) = simp length-drop (omega arith) in
-      let n : length (take 32 (drop (k - 32) s)) ≡ 32 = length-take-le 32 (drop (k - 32) s) d in
-      let high : List ℕ = take (k - 32) s in
-      let low : List ℕ = take 32 (drop (k - 32) s) in
-      let e : validPacked (take k s) ≡ validPacked high * 4 ^ length (map baseIn low) + validPacked low =
-      ap validPacked (rw m at (take-add (k - 32) 32 s))
-      ∙ ap packed (map-append baseIn high low) ∙ packed-append (map baseIn high) (map baseIn low) in
-      sym (two-words (validPacked (take k s)) (validPacked low) (validPacked high)
-      (e ∙ rw (length-map low baseIn, n) (omega arith)) (word-lt low (omega arith)))
+-- They all stand in the low word.
+pub pack-low : (k : ℕ) (s : List ℕ) → k ≤ 32 → k ≤ length s →
+    record { words = validPacked (take k s) ∷ 0 ∷ [] } ≡ kmerOf (validPacked (take k s))
+pack-low k s h l =
+    let n : length (take k s) ≡ k = length-take-le k s l in
+    sym (two-words (validPacked (take k s)) (validPacked (take k s)) 0 (omega arith) (word-lt (take k s) (omega arith)))

@@ -25,6 +25,10 @@ bases-drop zero s h = h
 bases-drop (suc i) [] h = h
 bases-drop (suc i) (b ∷ s) h = bases-drop i s (h .1)
 
+pub bases-append : (s t : List ℕ) → Bases s → Bases t → Bases (s ++ t)
+bases-append [] t p q = q
+bases-append (b ∷ s) t p q = (p .0, bases-append s t (p .1) q)
+
 pub bases-at : (s : List ℕ) (i : ℕ) → i < length s → Bases s → codeOf (getD s i 0) < 4
 bases-at [] i l h = absurd (omega arith)
 bases-at (b ∷ s) zero l h = h .0

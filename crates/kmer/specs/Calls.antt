@@ -6,7 +6,7 @@ use lib.Dec.{ltb}
 use lib.ListN.{length, take}
 use Rattle.dna.specs.Answer.{Answer, gives, refuses, Filled, fill}
 use Rattle.dna.specs.Letters.{firstBad}
-use Rattle.kmer.specs.Kmer.{okK, joined, packed, validPacked, baseAt, rc, canon, isCanon, forward, backward, letters}
+use Rattle.kmer.specs.Kmer.{okK, joined, packed, baseAt, rc, canon, isCanon, forward, backward, letters}
 
 -- The refusal 1 of a K that is not from 1 to 63, beside which K is returned.
 abbrev pub withK : {A : Type 0} → ℕ → Answer A → Answer A
@@ -32,10 +32,6 @@ withLetters K s answer = withK K (cond (ltb (length s) K) (refuses 2 (length s �
 -- Packing reads the first K bytes and ignores the rest.
 unfoldable pub packCall : ℕ → List ℕ → Answer ℕ
 packCall K s = withLetters K s (packBases (take K s) (firstBad 0 (take K s)))
-
--- Packing for a caller who knows that the first K bytes are bases: no byte is tested, and there is no 3.
-unfoldable pub validCall : ℕ → List ℕ → Answer ℕ
-validCall K s = withLetters K s (gives (validPacked (take K s)))
 
 -- A k-mer from its two words.
 abbrev pub wordsCall : ℕ → ℕ → ℕ → Answer ℕ
@@ -71,5 +67,5 @@ lettersCall K x slice =
 
 -- Opens this file's definitions to a proof that computes.
 unfoldable pub openCalls : Unit {0}
-unfolding packBases withLetters packCall validCall
+unfolding packBases withLetters packCall
 openCalls = tt

@@ -1,9 +1,9 @@
 -- A k-mer: K bases read as a number in base 4, the first base most significant. Assumes nothing.
 use Prim.Native.Nat.{ℕ, zero, suc, _+_, _-_, _*_, _/_, _%_, _^_, min}
 use mathlib.Core.Bool.{Bool, _&&_}
-use mathlib.Core.List.{List, [], _∷_, map}
+use mathlib.Core.List.{List, [], _∷_}
 use lib.Dec.{leb}
-use Rattle.dna.specs.Letters.{codeOf, letterOf, validBits}
+use Rattle.dna.specs.Letters.{codeOf, letterOf}
 
 -- K is from 1 to 63.
 abbrev pub okK : ℕ → Bool
@@ -28,14 +28,6 @@ onto x (b ∷ s) = onto (4 * x + codeOf b) s
 -- A text as a number, where every byte of it is a base.
 abbrev pub packed : List ℕ → ℕ
 packed s = onto 0 s
-
--- The base that a byte's two bits name: its own where it is one.
-abbrev pub baseIn : ℕ → ℕ
-baseIn b = letterOf (validBits b)
-
--- A text as a number, where no byte is tested and each is read as the base that its bits name.
-abbrev pub validPacked : List ℕ → ℕ
-validPacked s = packed (map baseIn s)
 
 -- The base at place i below K, the first at 0.
 unfoldable pub baseAt : ℕ → ℕ → ℕ → ℕ

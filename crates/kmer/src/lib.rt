@@ -3,6 +3,7 @@ ghost use mathlib.Core.Path.{_≡_};
 ghost use Rattle.kmer.specs.Says.{kmerOf};
 
 mod bases;
+mod eights;
 mod letters;
 mod order;
 mod pack;

@@ -1,16 +1,20 @@
 // A k-mer from letters, and from two words.
 ghost use mathlib.Core.Path.{_≡_};
+ghost use mathlib.Core.List.{[]};
 ghost use Prim.Native.Nat.{_≤_};
 ghost use lib.ListN.{length, take};
 ghost use Rattle.dna.specs.Answer.{gives};
 ghost use Rattle.dna.specs.Letters.{firstBad};
-ghost use Rattle.kmer.specs.Kmer.{packed, validPacked};
-ghost use Rattle.kmer.specs.Calls.{packBases, packCall, validCall, wordsCall};
-ghost use Rattle.kmer.specs.Says.{kmerOf, saysThen, Answers};
+ghost use Rattle.kmer.specs.Kmer.{packed};
+ghost use Rattle.kmer.specs.Packing.{validPacked, Packs};
+ghost use Rattle.kmer.specs.Calls.{packBases, packCall, wordsCall};
+ghost use Rattle.kmer.specs.Says.{saysThen, Answers};
 use super::Answered;
 use super::Kmer;
 use super::KmerAnswer;
 use super::KmerError;
+use super::eights;
+use super::eights::Packed;
 use super::verdict;
 use super::words;
 
@@ -29,7 +33,18 @@ fn bases_verdict(seq: &[u8]) -> KmerAnswer
     KmerAnswer::Done
 }
 
-// Up to 32 letters as one word.
+// What the quick test found strange is tested letter by letter.
+fn letters_verdict(strange: u64, seq: &[u8]) -> KmerAnswer
+    requires { ⌜ (strange ≡ 0 → firstBad 0 (now seq) ≡ []) ⌝ }
+    ensures { λ r. ⌜ saysThen r (gives (packed (now (seq .entry)))) ≡ packBases (now (seq .entry)) (firstBad 0 (now (seq .entry))) ⌝ }
+{
+    if strange == 0 {
+        return KmerAnswer::Done;
+    }
+    bases_verdict(seq)
+}
+
+// A few letters as one word.
 fn word_of(seq: &[u8]) -> u64
     requires { ⌜ length (now seq) ≤ 32 ⌝ }
     ensures { λ r. ⌜ r ≡ validPacked (now (seq .entry)) ⌝ }
@@ -43,20 +58,20 @@ fn word_of(seq: &[u8]) -> u64
     word
 }
 
-// The low word holds the last 32 letters, the high word those before them.
-fn pack(k: usize, seq: &[u8]) -> Kmer
+// The first K letters, read by their bits; fewer than eight pass for strange.
+fn pack(k: usize, seq: &[u8]) -> Packed
     requires { ⌜ (k ≤ 63) × (k ≤ length (now seq)) ⌝ }
-    ensures { λ r. ⌜ r ≡ kmerOf (validPacked (take k (now (seq .entry)))) ⌝ }
+    ensures { λ r. ⌜ Packs (take k (now (seq .entry))) r ⌝ }
 {
-    if k <= 32 {
-        return Kmer {
-            words: [word_of(&seq[..k]), 0],
+    if k < 8 {
+        return Packed {
+            kmer: Kmer {
+                words: [word_of(&seq[..k]), 0],
+            },
+            strange: 1,
         };
     }
-    let split = k - 32;
-    Kmer {
-        words: [word_of(&seq[split..k]), word_of(&seq[..split])],
-    }
+    eights::pack(k, seq)
 }
 
 impl Kmer {
@@ -70,28 +85,14 @@ impl Kmer {
         if seq.len() < k {
             return verdict::refused(KmerError::TooShort(seq.len()));
         }
-        match bases_verdict(&seq[..k]) {
+        let p = pack(k, seq);
+        let x = p.kmer;
+        match letters_verdict(p.strange, &seq[..k]) {
             KmerAnswer::Refused(e) => verdict::refused(e),
             KmerAnswer::Done => Answered {
                 answer: KmerAnswer::Done,
-                kmer: pack(k, seq),
+                kmer: x,
             },
-        }
-    }
-
-    // The same for a caller who knows that they are bases; another byte counts as the base that its bits name.
-    pub fn from_valid_ascii(k: usize, seq: &[u8]) -> Answered
-        ensures { λ r. ⌜ Answers r (validCall k (now (seq .entry))) ⌝ }
-    {
-        if !verdict::supported(k) {
-            return verdict::refused(KmerError::UnsupportedK(k));
-        }
-        if seq.len() < k {
-            return verdict::refused(KmerError::TooShort(seq.len()));
-        }
-        Answered {
-            answer: KmerAnswer::Done,
-            kmer: pack(k, seq),
         }
     }
 

@@ -16,11 +16,11 @@ drop-set s i v h =
     drop-cons (set s i v) i 0 l ∙ rw (getD-set-same s i v 0 h, drop-set-lt (suc i) s i v (omega arith))
 
 module _ (m x : ℕ) (s : List ℕ) where
-  decimal-last : x < 10 → decimal (suc m) x s ≡ (48 + x % 10) ∷ s
+  pub decimal-last : x < 10 → decimal (suc m) x s ≡ (48 + x % 10) ∷ s
   unfolding decimal
   decimal-last h = rw (lt-ltb x 10 h)
 
-  decimal-more : 10 ≤ x → decimal (suc m) x s ≡ decimal m (x / 10) ((48 + x % 10) ∷ s)
+  pub decimal-more : 10 ≤ x → decimal (suc m) x s ≡ decimal m (x / 10) ((48 + x % 10) ∷ s)
   unfolding decimal
   decimal-more h = rw (le-ltb x 10 h)
 

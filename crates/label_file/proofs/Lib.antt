@@ -2,6 +2,7 @@ pub mod Marks
 pub mod Reaching
 pub mod Remaining
 pub mod Digits
+pub mod Decimals
 pub mod Lines
 pub mod Unread
 pub mod Outcomes

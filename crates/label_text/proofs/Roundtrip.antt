@@ -1,5 +1,6 @@
 -- What is packed is read back. Assumes nothing.
-use mathlib.Core.Path.{_≡_, refl}
+use mathlib.Core.Path.{_≡_, refl, sym, ap}
+use mathlib.Core.Bool.{Bool, true, false, false≢true}
 use mathlib.Core.List.{List, [], _∷_, _++_}
 use Prim.Native.Nat.{ℕ, zero, suc, _+_, _*_, _/_, _%_, _^_, _≤_, _<_}
 use native.Mathlib.Nat.{not-suc-le-zero}
@@ -9,12 +10,11 @@ use lib.Dec.{ltb}
 use lib.ListN.{length, take, drop, length-append}
 use lib.Seq.{take-append-seam, drop-append-seam}
 use Rattle.lemmas.proofs.Tests.{choose}
-use Rattle.dna.specs.Answer.{refuses, Filled}
-use Rattle.dna.proofs.Answers.{ungiven}
 use Rattle.label_file.specs.LabelFile.{holds, labelsFrom, fileOf, two}
 use Rattle.label_text.specs.Lines.{isMixed, labelsIn}
-use Rattle.label_text.specs.Packing.{labelRecord, labelRecords, headRecord, packed, packText, Packs}
+use Rattle.label_text.specs.Packing.{labelRecord, labelRecords, headRecord, packed, Packing, packText}
 use Rattle.label_text.specs.declared.PackAnswer.the-variants as pack
+use Rattle.label_text.proofs.Says.{sizeIn}
 
 -- Two bytes are a number below 65,536.
 two-bytes : (n : ℕ) → n < 65536 → n % 256 + 256 * (n / 256 % 256) ≡ n
@@ -59,15 +59,19 @@ module _ (K cutoff : ℕ) where
       rw (le-leb (length s) 16384 h, le-leb 2 (length s) (omega arith), le-leb 7 (length s) (omega arith), four-bytes cutoff c)
       (records-read labels (length s) 1 (omega arith) (omega arith))
 
+abbrev isPacked : Packing → Bool
+isPacked q = elim (q .answer) [ pack.Packed n ↦ true | pack.Mixed ↦ false | pack.TooLarge ↦ false | pack.NoRoom ↦ false ]
+
 -- The bytes that `pack` leaves in a slice say K, the cutoff and the labels of the text.
 pub packed-read-back : (K cutoff : ℕ) (text slice out : List ℕ) (n : ℕ) → cutoff < 2 ^ 32
-    → Packs (pack.Packed n) out (packText K cutoff text slice) → fileOf (take n out) ≡ holds K cutoff (labelsIn text)
+    → record { answer = pack.Packed n; slice = out } ≡ packText K cutoff text slice → fileOf (take n out) ≡ holds K cutoff (labelsIn text)
 unfolding packText
 packed-read-back K cutoff text slice out n c =
-    choose Says (isMixed text) (λ _. no-refusal 3 slice)
-    (λ _. choose Says (ltb 16384 (length file)) (λ _. no-refusal 13 slice)
-    (λ t. choose Says (ltb (length slice) (length file)) (λ _. no-refusal 9 slice)
-    (λ _ p. let e : n ≡ length file = cc (p .answer) in rw (e, p .slice, take-append-seam file (drop (length file) slice))
+    choose Says (isMixed text) (λ _ p. unpacked (ap isPacked p))
+    (λ _. choose Says (ltb 16384 (length file)) (λ _ p. unpacked (ap isPacked p))
+    (λ t. choose Says (ltb (length slice) (length file)) (λ _ p. unpacked (ap isPacked p))
+    (λ _ p. let e : n ≡ length file = ap sizeIn (ap (λ (q : Packing). q .answer) p) in
+    rw (e, ap (λ (q : Packing). q .slice) p, take-append-seam file (drop (length file) slice))
     (read-back K cutoff (labelsIn text) c (ltb-false 16384 (length file) t)))))
   where
     file : List ℕ
@@ -76,8 +80,8 @@ packed-read-back K cutoff text slice out n c =
     says : Type 0
     says = fileOf (take n out) ≡ holds K cutoff (labelsIn text)
 
-    Says : Filled → Type 0
-    Says f = Packs (pack.Packed n) out f → says
+    unpacked : true ≡ false → says
+    unpacked e = absurd (false≢true (sym e))
 
-    no-refusal : (r : ℕ) (slice : List ℕ) → Packs (pack.Packed n) out (record { answer = refuses r []; slice = slice }) → says
-    no-refusal r slice p = ungiven n r [] (p .answer)
+    Says : Packing → Type 0
+    Says q = record { answer = pack.Packed n; slice = out } ≡ q → says

@@ -1,12 +1,10 @@
 -- Labels as a label file. Assumes nothing.
 use Prim.Native.Nat.{ℕ, _/_, _%_}
-use mathlib.Core.Path.{_≡_}
 use mathlib.Core.Bool.{cond}
 use mathlib.Core.List.{List, [], _∷_, _++_}
 use lib.Dec.{ltb}
 use lib.ListN.{length}
-use Rattle.dna.specs.Text.{bytes}
-use Rattle.dna.specs.Answer.{Answer, gives, refuses, Filled, fill}
+use Rattle.dna.specs.Text.{bytes, over}
 use Rattle.label_text.specs.Lines.{isMixed, labelsIn}
 use Rattle.label_text.specs.declared.PackAnswer.{PackAnswer}
 use Rattle.label_text.specs.declared.PackAnswer.the-variants as pack
@@ -32,24 +30,20 @@ labelRecords (l ∷ ls) = labelRecord l ++ labelRecords ls
 unfoldable pub packed : ℕ → ℕ → List (List ℕ) → List ℕ
 packed K cutoff labels = headRecord K cutoff ++ labelRecords labels
 
--- A text's label file in a slice, or that the text is mixed, or that the file exceeds 16,384 bytes or the slice.
-unfoldable pub packText : ℕ → ℕ → List ℕ → List ℕ → Filled
+-- What packing answers, and the slice afterwards.
+pub record Packing : Type 0 where
+  pub answer : PackAnswer
+  pub slice : List ℕ
+
+-- A text's label file in a slice; and, where nothing is written, that the text is mixed, that the file exceeds 16,384 bytes, or that it exceeds
+-- the slice.
+unfoldable pub packText : ℕ → ℕ → List ℕ → List ℕ → Packing
 packText K cutoff text slice =
     let file = packed K cutoff (labelsIn text) in
-    cond (isMixed text) (record { answer = refuses 3 []; slice = slice })
-    (cond (ltb 16384 (length file)) (record { answer = refuses 13 []; slice = slice }) (fill 9 file slice))
-
--- The bytes of the file, or why none were written.
-abbrev pub packAnswer : PackAnswer → Answer ℕ
-packAnswer (pack.Packed n) = gives n
-packAnswer pack.Mixed = refuses 3 []
-packAnswer pack.TooLarge = refuses 13 []
-packAnswer pack.NoRoom = refuses 9 []
-
--- A call that packs: its answer, and the slice at exit.
-pub record Packs (r : PackAnswer) (out : List ℕ) (f : Filled) : Type 0 where
-  pub answer : packAnswer r ≡ f .answer
-  pub slice : out ≡ f .slice
+    cond (isMixed text) (record { answer = pack.Mixed; slice = slice })
+    (cond (ltb 16384 (length file)) (record { answer = pack.TooLarge; slice = slice })
+    (cond (ltb (length slice) (length file)) (record { answer = pack.NoRoom; slice = slice })
+    (record { answer = pack.Packed (length file); slice = over file slice })))
 
 -- Opens this file's definitions to a proof that computes.
 unfoldable pub openPacking : Unit {0}

@@ -4,7 +4,7 @@ ghost use mathlib.Core.Bool.{false};
 ghost use Prim.Native.Nat.{_-_, _≤_};
 ghost use lib.ListN.{length};
 ghost use Rattle.dna.specs.Text.{over, part};
-ghost use Rattle.label_text.specs.Packing.{headRecord, packText, Packs};
+ghost use Rattle.label_text.specs.Packing.{headRecord, packText};
 ghost use Rattle.label_text.specs.Says.{Room, Closes, Joins, Takes, Measures};
 use super::PackAnswer;
 use super::Size;
@@ -110,7 +110,7 @@ fn pack_lines(text: &[u8], k: u8, cutoff: u32, out: &mut [u8]) -> Size
 
 // The label file of a text, from the slice's first byte on.
 pub fn pack(text: &[u8], k: u8, cutoff: u32, out: &mut [u8]) -> PackAnswer
-    ensures { λ r. ⌜ Packs r (now (out .exit)) (packText k cutoff (now (text .entry)) (now (out .entry))) ⌝ }
+    ensures { λ r. ⌜ record { answer = r; slice = now (out .exit) } ≡ packText k cutoff (now (text .entry)) (now (out .entry)) ⌝ }
 {
     if lines::is_mixed(text) {
         return PackAnswer::Mixed;

@@ -10,15 +10,16 @@ use lib.ListN.{length, drop, getD}
 use lib.Seq.{drop-cons, drop-length}
 use borrow.Author.Tests.{le-leb, lt-leb, leb-true, eq-eqb, ne-eqb}
 use Rattle.lemmas.proofs.Tests.{choose, both}
-use Rattle.labels.specs.Spelled.{areDigits, decimal, spelledFrom, spelled}
+use Rattle.label_file.specs.Spelled.{areDigits, said}
+use Rattle.labels.specs.Spelled.{spelledFrom, spelled}
 use Rattle.labels.specs.declared.Number.{Number}
 use Rattle.labels.specs.declared.Number.the-variants.{Is, Bad}
 
 -- More digits make no smaller number.
-decimal-grows : (x : ℕ) (ds : List ℕ) → x ≤ decimal x ds
-unfolding decimal
-decimal-grows x [] = omega arith
-decimal-grows x (d ∷ ds) = omega (arith, decimal-grows (10 * x + (d - 48)) ds)
+said-grows : (x : ℕ) (ds : List ℕ) → x ≤ said x ds
+unfolding said
+said-grows x [] = omega arith
+said-grows x (d ∷ ds) = omega (arith, said-grows (10 * x + (d - 48)) ds)
 
 -- A number is not Bad, and is known by its value.
 no-number : {P : Type 0} {x : ℕ} → Is x ≡ Bad → P
@@ -30,7 +31,7 @@ is-number e = cc
 -- What a text says after x, by its first byte, and by x itself.
 module _ (most : ℕ) where
   from-none : (x : ℕ) → x ≤ most → spelledFrom x [] most ≡ Is x
-  unfolding areDigits decimal
+  unfolding areDigits said
   from-none x h = rw (le-leb x most h)
 
   from-low : (x d : ℕ) (ds : List ℕ) → d < 48 → spelledFrom x (d ∷ ds) most ≡ Bad
@@ -42,23 +43,23 @@ module _ (most : ℕ) where
   from-high x d ds l h = rw (le-leb 48 d l, lt-leb d 57 h)
 
   from-digit : (x d : ℕ) (ds : List ℕ) → 48 ≤ d → d ≤ 57 → spelledFrom x (d ∷ ds) most ≡ spelledFrom (10 * x + (d - 48)) ds most
-  unfolding areDigits decimal
+  unfolding areDigits said
   from-digit x d ds l h = rw (le-leb 48 d l, le-leb d 57 h)
 
   from-above : (x : ℕ) (ds : List ℕ) → most < x → spelledFrom x ds most ≡ Bad
   from-above x ds h =
-      let a : most < decimal x ds = omega (arith, decimal-grows x ds) in
-      rw (lt-leb (decimal x ds) most a, and-false)
+      let a : most < said x ds = omega (arith, said-grows x ds) in
+      rw (lt-leb (said x ds) most a, and-false)
 
   -- A number that is said is not above the limit.
   pub spelled-most : (ds : List ℕ) (x : ℕ) → Is x ≡ spelled ds most → x ≤ most
   unfolding spelled
   spelled-most ds x =
       let P : Number → Type 0 = λ n. Is x ≡ n → x ≤ most in
-      let low = leb (decimal 0 ds) most in
+      let low = leb (said 0 ds) most in
       choose P (eqb (length ds) 0) (λ _ e. no-number e)
       (λ _. choose P (areDigits ds && low)
-      (λ h e. omega (arith, is-number e, leb-true (decimal 0 ds) most (both (areDigits ds) low h .1)))
+      (λ h e. omega (arith, is-number e, leb-true (said 0 ds) most (both (areDigits ds) low h .1)))
       (λ _ e. no-number e))
 
 module _ (digits : List ℕ) (most : ℕ) where

@@ -18,12 +18,12 @@ use Rattle.graph.specs.Labels.{run}
 use Rattle.graph.proofs.Fit.{fit-after}
 use Rattle.graph.proofs.Lookup.{rank-at}
 use Rattle.laws.specs.Tours.{Piece, kmers, reading, Taken, Taken.round, Taken.straight}
-use Rattle.laws.specs.Windows.{occurs}
+use Rattle.laws.specs.Windows.{occurs, Plain}
 use Rattle.laws.specs.Demand.{Each, Each.none, Each.more, Outward, Outward.stays, inOrder, FromSmallest, HoldsLive, Always}
 use Rattle.laws.proofs.Tours.{in-anchor}
 use Rattle.laws.proofs.Labelled.{Paired, Paired.nothing, Paired.pair, Labelled, run-labelled, label-text, reading-plain, text-windows}
 use Rattle.laws.proofs.Occurrences.{label-occurs, exactly-once, never-twice}
-use Rattle.laws.proofs.Plain.{lesser-cases, lesser-least}
+use Rattle.laws.proofs.Plain.{plain-turned, lesser-cases, lesser-least}
 use Rattle.laws.proofs.Indexed.{sorted-occurrences, in-order-each, in-order-ascend}
 use Rattle.laws.proofs.Outward.{trail-outward}
 
@@ -48,6 +48,12 @@ module _ (K : ℕ) (ks : List ℕ) (es : List Ends) (one : 1 ≤ K) (fit : fitFr
       let e = label-text K ks es g one fit known in
       subst (λ (z : List ℕ). before (reverseComplement z) z ≡ false) (sym e)
       (lesser-least (reading K ks p) (reading-plain K ks es g one fit known))
+
+  label-plain : {l : List ℕ} {p : Piece} → Labelled K ks es l p → Plain l
+  label-plain {p = p} g =
+      let r = reading-plain K ks es g one fit known in
+      subst Plain (sym (label-text K ks es g one fit known)) (⊎-elim (λ q. subst Plain (sym q) r)
+      (λ q. subst Plain (sym q) (plain-turned (reading K ks p) r)) (lesser-cases (reading K ks p)))
 
   taken-outward : {marks after l : List ℕ} {p : Piece} → Taken K ks es marks p after l → p .anchor < length ks
       → Outward K ks es Back (getD ks (p .anchor) 0 ∷ kmers K ks (p .back))
@@ -97,4 +103,5 @@ module _ (K : ℕ) (ks : List ℕ) (es : List Ends) (one : 1 ≤ K) (fit : fitFr
             (paired-each (λ m p g. (getD ks (p .anchor) 0, anchor-occurs g)) r);
         none-above = in-order-each (λ (m : List ℕ). before (reverseComplement m) m ≡ false) (run-least (length ks) l);
         outward = in-order-each (FromSmallest K ks es) (paired-each (λ m p g. from-smallest g) r);
+        letters = in-order-each Plain (paired-each (λ m p g. label-plain g) r);
       }

@@ -3,7 +3,7 @@ use mathlib.Core.Path.{_≡_, refl, _∙_}
 use mathlib.Core.Bool.{Bool, true, or-true}
 use mathlib.Core.Logic.{⊎-elim}
 use mathlib.Core.List.{List, [], _∷_}
-use Prim.Native.Nat.{ℕ, suc, _-_, _<_}
+use Prim.Native.Nat.{ℕ, suc, _<_}
 use native.Mathlib.Omega.{arith}
 use lib.ListN.{getD}
 use Rattle.lemmas.proofs.Numbers.{lt-or-ge}
@@ -15,7 +15,7 @@ use Rattle.graph.specs.Sightings.{Rule, windows, sightings}
 use Rattle.graph.specs.Walks.{seen, leaving}
 use Rattle.graph.proofs.Adding.{Readable}
 use Rattle.graph.proofs.Accepted.{accepted}
-use Rattle.laws.specs.Grown.{Grown, fresh, accepts, shows, seenIn, times, sightedIn}
+use Rattle.laws.specs.Grown.{Grown, fresh, accepts, moves, shows, seenIn, times, sightedIn}
 use Rattle.laws.proofs.Keys.{grown-keys}
 use Rattle.laws.proofs.Sighted.{EachSighted, each-hit, shows-window}
 use Rattle.laws.proofs.Counts.{grown-counts-at}
@@ -49,6 +49,7 @@ pub grown-readable : {κ : Kind} {rule : Rule} {K : ℕ} {ls : List (List ℕ)} 
 grown-readable (fresh keys counts) = tt
 grown-readable {κ} {rule} {K} (accepts {n = n} {keys = keys} {counts = counts} g l e h) =
     (accepted κ rule K n keys counts l e h .reads, grown-readable g)
+grown-readable (moves g keys′ counts′ e) = grown-readable g
 
 labels-shown : (rule : Rule) (K : ℕ) (ls : List (List ℕ)) → AllReadable K ls → (x j : ℕ) → 0 < sightedIn rule K ls x j → Ahead K (Tested (seenIn K ls)) x j
 unfolding sightedIn seenIn

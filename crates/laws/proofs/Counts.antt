@@ -26,7 +26,7 @@ use Rattle.graph.proofs.Accepted.{fit-sound, fit-length, accepted}
 use Rattle.graph.proofs.Keys.{keys-length}
 use Rattle.laws.proofs.Keys.{grown-fit}
 use Rattle.laws.proofs.Sighted.{EachSighted, each-at, each-all}
-use Rattle.laws.specs.Grown.{Grown, fresh, accepts, times, sightedIn}
+use Rattle.laws.specs.Grown.{Grown, fresh, accepts, moves, times, sightedIn}
 
 -- ---- a table whose counters are what h says
 
@@ -140,6 +140,7 @@ module _ {κ : Kind} {rule : Rule} {K : ℕ} where
       let a = accepted κ rule K n keys counts l e h in
       subst (λ (t : Table). Tells κ t (sightedIn rule K (l ∷ ls))) (sym (a .table))
       (added-tells κ K rule l (a .reads) (tableOf n keys counts) (sightedIn rule K ls) (fit-sound K n keys counts (a .fits)) (grown-tells g))
+  grown-tells (moves {ls = ls} g keys′ counts′ e) = subst (λ (t : Table). Tells κ t (sightedIn rule K ls)) (sym e) (grown-tells g)
 
   -- A counter of a stored k-mer is the number of its sightings in all labels, or the top if there are more.
   pub grown-counts : {ls : List (List ℕ)} {n : ℕ} {keys counts : List ℕ} → Grown κ rule K ls n keys counts

@@ -19,11 +19,11 @@ use Rattle.graph.specs.Labels.{run}
 use Rattle.graph.specs.Contraction.{endToEnd, endsIn}
 use Rattle.graph.proofs.Accepted.{fit-room, fit-length}
 use Rattle.laws.specs.Windows.{occurrences}
-use Rattle.laws.specs.Demand.{inOrder, Always}
+use Rattle.laws.specs.Demand.{Each, HoldsLive, inOrder, Always}
 use Rattle.laws.proofs.Found.{edge-is}
 use Rattle.laws.proofs.Occurrences.{mark-occurs}
 use Rattle.laws.proofs.Room.{run-room}
-use Rattle.laws.proofs.Always.{always}
+use Rattle.laws.proofs.Always.{run-live, always}
 
 module _ (κ : Kind) (K cutoff n : ℕ) (keys counts : List ℕ) (f : fit K n keys counts ≡ true) where
   abbrev ks : List ℕ
@@ -52,6 +52,10 @@ module _ (κ : Kind) (K cutoff n : ℕ) (keys counts : List ℕ) (f : fit K n ke
 
     pub fit-always : Always K ks es (inOrder (run K ks es n))
     fit-always = subst (λ (m : ℕ). Always K ks es (inOrder (run K ks es m))) size (always K ks es one keys-fit edges-known)
+
+    -- Every label of the run holds a k-mer that is not isolated.
+    pub fit-live : Each (HoldsLive K ks es) (run K ks es n .labels)
+    fit-live = run-live K ks es one keys-fit edges-known n (omega (arith, size))
 
     -- The labels together hold at most n times K bases.
     pub fit-bases : length (endToEnd (run K ks es n .labels)) ≤ K * n

@@ -25,7 +25,7 @@ use Rattle.graph.specs.Contraction.{endsIn}
 use Rattle.graph.proofs.Rank.{stored-at}
 use Rattle.graph.proofs.Lookup.{key-inj}
 use Rattle.graph.proofs.Accepted.{fit-length, fit-sound, accepted}
-use Rattle.laws.specs.Grown.{Grown, fresh, accepts, Joins}
+use Rattle.laws.specs.Grown.{Grown, fresh, accepts, moves, Joins}
 use Rattle.laws.specs.Windows.{occurrences}
 use Rattle.laws.proofs.Keys.{grown-fit}
 use Rattle.laws.proofs.Edges.{other-end, grown-symmetric}
@@ -54,6 +54,7 @@ grown-ok : {κ : Kind} {rule : Rule} {K : ℕ} {ls : List (List ℕ)} {n : ℕ} 
     → Grown κ rule K ls n keys counts → 0 < n → okK K ≡ true
 grown-ok (fresh keys counts) h = absurd (omega arith)
 grown-ok {κ} {rule} {K} (accepts {n = n} {keys = keys} {counts = counts} g l e q) h = accepted κ rule K n keys counts l e q .ok
+grown-ok (moves g keys′ counts′ e) h = grown-ok g h
 
 module _ {κ : Kind} {K : ℕ} {ls : List (List ℕ)} {n : ℕ} {keys counts : List ℕ} (g : Grown κ sameCanonical K ls n keys counts) (cutoff : ℕ) where
   abbrev ks : List ℕ

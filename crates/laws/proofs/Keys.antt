@@ -2,9 +2,10 @@
 use mathlib.Core.Path.{_≡_, refl, sym, ap, _∙_}
 use mathlib.Core.Bool.{Bool, true, _||_, or-false, or-assoc}
 use mathlib.Core.List.{List}
-use Prim.Native.Nat.{ℕ, zero, suc}
+use Prim.Native.Nat.{ℕ, zero, suc, _/_, _≤_}
 use native.Mathlib.Omega.{arith}
 use lib.Dec.{eqb}
+use lib.ListN.{length, take, length-take}
 use borrow.Author.Tests.{le-leb}
 use Rattle.dna.specs.Answer.{Answer, gives, refuses}
 use Rattle.kmer.specs.Kmer.{canon}
@@ -13,9 +14,10 @@ use Rattle.graph.specs.Table.{Table, tableOf, keysOf, capacity, fit, fitFrom, s
 use Rattle.graph.specs.Sightings.{Rule, window, windows}
 use Rattle.graph.specs.Adding.{Edges, Added, storeWindows, added, storedAfter, addLabel}
 use Rattle.graph.proofs.Rank.{stored-nil}
+use Rattle.graph.proofs.Keys.{keys-length}
 use Rattle.graph.proofs.Adding.{store-or, added-keys}
-use Rattle.graph.proofs.Accepted.{accepted, accepted-fit, refused-same}
-use Rattle.laws.specs.Grown.{Grown, fresh, accepts, shows, seenIn}
+use Rattle.graph.proofs.Accepted.{fit-room, fit-length, fit-sound, accepted, accepted-fit, refused-same}
+use Rattle.laws.specs.Grown.{Grown, fresh, accepts, moves, shows, seenIn}
 
 -- ---- fit
 
@@ -33,12 +35,26 @@ module _ (κ : Kind) (rule : Rule) (K n : ℕ) (keys counts label : List ℕ) wh
           let s = refused-same κ rule K n keys counts label x vs h in
           rw (s .keys-same, s .counts-same) f
 
+-- Vertices that are fit stay so in other slices: their keys are the same, and there is room for as many as there are.
+moved-fit : (K n : ℕ) (keys counts keys′ counts′ : List ℕ) → tableOf n keys′ counts′ ≡ tableOf n keys counts
+    → fit K n keys counts ≡ true → fit K n keys′ counts′ ≡ true
+moved-fit K n keys counts keys′ counts′ e f =
+    let ks : keysOf n keys′ ≡ keysOf n keys = ap (λ (t : Table). t .keys) e in
+    let cs : take n counts′ ≡ take n counts = ap (λ (t : Table). t .counts) e in
+    let size : length (keysOf n keys) ≡ n = fit-length K n keys counts f in
+    let here : n ≤ length keys′ / 2 = omega (arith, size, keys-length n keys′, ap length ks) in
+    let there : n ≤ length counts′ = omega (arith, size, fit-sound K n keys counts f .sizes, length-take n counts′, ap length cs) in
+    let few : n ≤ 65536 = omega (arith, fit-room K n keys counts f) in
+    let room : n ≤ capacity keys′ counts′ = omega arith in
+    rw (le-leb n (capacity keys′ counts′) room, ks) (fit-sound K n keys counts f .fits)
+
 module _ {κ : Kind} {rule : Rule} {K : ℕ} where
   -- A grown table is fit.
   pub grown-fit : {ls : List (List ℕ)} {n : ℕ} {keys counts : List ℕ} → Grown κ rule K ls n keys counts → fit K n keys counts ≡ true
   unfolding keysOf fitFrom
   grown-fit (fresh keys counts) = rw (le-leb 0 (capacity keys counts) (omega arith))
   grown-fit (accepts {n = n} {keys = keys} {counts = counts} g l e h) = accepted-fit κ rule K n keys counts l e h
+  grown-fit (moves {n = n} {keys = keys} {counts = counts} g keys′ counts′ e) = moved-fit K n keys counts keys′ counts′ e (grown-fit g)
 
 -- ---- keys
 
@@ -68,3 +84,4 @@ module _ {κ : Kind} {rule : Rule} {K : ℕ} where
       let a = accepted κ rule K n keys counts l e h in
       ap (λ (t : Table). stored (t .keys) x) (a .table) ∙ added-stored κ rule K l (tableOf n keys counts) x
       ∙ ap (λ (b : Bool). b || shows K l (windows K l) x) (grown-keys g x)
+  grown-keys (moves g keys′ counts′ e) x = ap (λ (t : Table). stored (t .keys) x) e ∙ grown-keys g x

@@ -38,3 +38,4 @@ pub mod Isolated
 pub mod Demand
 pub mod Asked
 pub mod Again
+pub mod Returned

@@ -18,8 +18,9 @@ use Rattle.graph.specs.Entries.{listed, within}
 use Rattle.graph.specs.Walks.{Ends}
 use Rattle.graph.specs.Labels.{Run, run}
 use Rattle.graph.specs.Contraction.{Entry, Totals, Contracted, entries, sorted, endToEnd, endsIn, written, finish, contract}
+use Rattle.laws.specs.Windows.{occurrences}
 use Rattle.laws.specs.Demand.{Each, Each.none, Each.more, inOrder, Always}
-use Rattle.laws.proofs.Indexed.{sorted-length, sorted-each}
+use Rattle.laws.proofs.Indexed.{sorted-length, sorted-each, sorted-occurrences}
 use Rattle.laws.proofs.Fits.{fit-always}
 
 -- The entry's label stands where the entry says, within the bytes.
@@ -89,17 +90,18 @@ module _ (κ : Kind) (K cutoff n : ℕ) (keys counts labels starts lengths marks
             ∙ within-right bytes right (drop (length sp) starts) (drop (length lp) lengths);
       }
 
-  written-number : (r : Run) (t : Totals) → written κ K cutoff n keys counts labels starts lengths marks r .answer ≡ gives t
-      → t .labels ≡ length (r .labels)
+  written-totals : (r : Run) (t : Totals) → written κ K cutoff n keys counts labels starts lengths marks r .answer ≡ gives t
+      → (t .labels ≡ length (r .labels)) × (t .bases ≡ length (endToEnd (r .labels)))
   unfolding written
-  written-number r t h = cc
+  written-totals r t h = (cc, cc)
 
   -- A call that is not refused: K and the table were in order, and the labels of the run were written.
-  record Accepted (c : Contracted) (t : Totals) : Type 0 where
-    ok : okK K ≡ true
-    fits : fit K n keys counts ≡ true
-    is : c ≡ written κ K cutoff n keys counts labels starts lengths marks (run K ks es n)
-    number : t .labels ≡ length (run K ks es n .labels)
+  pub record Accepted (c : Contracted) (t : Totals) : Type 0 where
+    pub ok : okK K ≡ true
+    pub fits : fit K n keys counts ≡ true
+    pub is : c ≡ written κ K cutoff n keys counts labels starts lengths marks (run K ks es n)
+    pub number : t .labels ≡ length (run K ks es n .labels)
+    pub bases : t .bases ≡ length (endToEnd (run K ks es n .labels))
 
   finished : (r : Run) (t : Totals) → finish κ K cutoff n keys counts labels starts lengths marks r .answer ≡ gives t
       → finish κ K cutoff n keys counts labels starts lengths marks r ≡ written κ K cutoff n keys counts labels starts lengths marks r
@@ -113,7 +115,7 @@ module _ (κ : Kind) (K cutoff n : ℕ) (keys counts labels starts lengths marks
       Q : Contracted → Type 0
       Q c = c .answer ≡ gives t → c ≡ written κ K cutoff n keys counts labels starts lengths marks r
 
-  accepted : (t : Totals) → result .answer ≡ gives t → Accepted result t
+  pub accepted : (t : Totals) → result .answer ≡ gives t → Accepted result t
   unfolding contract
   accepted t =
       let r = run K ks es n in
@@ -124,7 +126,8 @@ module _ (κ : Kind) (K cutoff n : ℕ) (keys counts labels starts lengths marks
       let w = finished r t h in
       let a : written κ K cutoff n keys counts labels starts lengths marks (run K ks es n) .answer ≡ gives t =
       ap (λ (c : Contracted). c .answer) (sym w) ∙ h in
-      record { ok = not-false (okK K) p; fits = not-false (fit K n keys counts) q; is = w; number = written-number r t a })))
+      let s = written-totals r t a in
+      record { ok = not-false (okK K) p; fits = not-false (fit K n keys counts) q; is = w; number = s .0; bases = s .1 })))
     where
       P : Contracted → Type 0
       P c = c .answer ≡ gives t → Accepted c t
@@ -151,3 +154,8 @@ module _ (κ : Kind) (K cutoff n : ℕ) (keys counts labels starts lengths marks
   contract-always t h =
       let a = accepted t h in
       subst (Always K ks es) (sym (contract-listed t h)) (fit-always κ K cutoff n keys counts (a .fits) (a .ok))
+
+  -- A k-mer occurs in them as often as in the labels of the run.
+  pub contract-occurrences : (t : Totals) → result .answer ≡ gives t → (x : ℕ)
+      → occurrences K x (listed (t .labels) (result .labels) (result .starts) (result .lengths)) ≡ occurrences K x (run K ks es n .labels)
+  contract-occurrences t h x = ap (occurrences K x) (contract-listed t h) ∙ sorted-occurrences K x 0 (run K ks es n .labels)

@@ -42,5 +42,6 @@ module _ (K : ℕ) (ks : List ℕ) (es : List Ends) (fit : fitFrom K 0 ks ≡ tr
       omega (arith, known v s l, eqb-false (edge es v s) 5 (c .some), eqb-false (edge es v s) 4 (c .single)) in
       steps few
       (y ∙ ap (λ (z : ℕ). forward K (seen K ks v s) (leaving s z)) (sym here))
+      (rw (canon-seen K ks fit u t lu) (at-stored K ks fit u lu))
       (λ q. eqb-false (edge es u (entrance K (ahead K ks es v s))) 4 (c .open-ahead) (sym there ∙ q))
       (subst (λ (z : Side). Outward K ks es z (seen K ks u t ∷ kmers K ks ps)) (sym side) (trail-outward r lu))

@@ -13,6 +13,7 @@ use Rattle.kmer.proofs.Strands.{rc-rc}
 use Rattle.kmer.proofs.Turned.{rc-lt}
 use Rattle.kmer.proofs.Spelling.{length-letters}
 use Rattle.kmer.proofs.Texts.{packed-letters, bases-letters, letters-rc}
+use Rattle.kmer.proofs.Windows.{bases-append}
 use Rattle.state.specs.declared.Side.{Side}
 use Rattle.state.specs.declared.Side.the-variants.{Front, Back}
 use Rattle.graph.specs.declared.Step.{Step}
@@ -25,7 +26,7 @@ use Rattle.laws.specs.Trails.{Place, Trail, Trail.ends, Trail.goes}
 use Rattle.laws.specs.Tours.{Piece, appended, kmers, reading, readKmers, Taken, Taken.round, Taken.straight}
 use Rattle.laws.specs.Windows.{windowsFrom, windowsOf, onward, Codes}
 use Rattle.laws.proofs.Steps.{came, came-lt, came-forward, came-base}
-use Rattle.laws.proofs.Windows.{bases-append, bases-codes, turn-append, windows-behind, windows-within, windows-onward, windows-but-last}
+use Rattle.laws.proofs.Windows.{bases-codes, turn-append, windows-behind, windows-within, windows-onward, windows-but-last}
 
 abbrev bases : List Place → List ℕ
 bases ps = map (λ (p : Place). p .base) ps

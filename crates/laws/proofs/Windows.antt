@@ -10,16 +10,12 @@ use Rattle.dna.specs.Letters.{codeOf, letterOf, complementLetter, reverseComple
 use Rattle.dna.proofs.Letters.{code-letter}
 use Rattle.dna.proofs.Reversal.{length-reverseComplement}
 use Rattle.kmer.specs.Kmer.{packed, onto, rc, forward}
-use Rattle.kmer.proofs.Windows.{Bases, bases-take, packed-cons, packed-snoc, packed-slide, packed-lt}
+use Rattle.kmer.proofs.Windows.{Bases, bases-take, bases-append, packed-cons, packed-snoc, packed-slide, packed-lt}
 use Rattle.laws.specs.Windows.{windowsFrom, onward, Codes}
 use Rattle.laws.proofs.Sides.{complement-is}
 use Rattle.laws.proofs.Links.{rc-front}
 
 -- ---- texts of bases
-
-pub bases-append : (s t : List ℕ) → Bases s → Bases t → Bases (s ++ t)
-bases-append [] t p q = q
-bases-append (b ∷ s) t p q = (p .0, bases-append s t (p .1) q)
 
 pub bases-codes : (cs : List ℕ) → Codes cs → Bases (map letterOf cs)
 bases-codes [] h = tt

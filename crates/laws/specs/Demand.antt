@@ -17,7 +17,7 @@ use Rattle.graph.specs.Labels.{Run}
 use Rattle.graph.specs.Contraction.{Entry, entries, sorted}
 use Rattle.laws.specs.Grown.{Joins}
 use Rattle.laws.specs.Neighbours.{Together}
-use Rattle.laws.specs.Windows.{windowsOf, occurs, occurrences}
+use Rattle.laws.specs.Windows.{windowsOf, occurs, occurrences, Plain}
 
 -- Each of a list.
 pub data Each {A : Type 0} (P : A → Type 0) : List A → Type 0 where
@@ -49,7 +49,7 @@ module _ (K : ℕ) (ks : List ℕ) (es : List Ends) where
   pub data Outward : Side → List ℕ → Type 0 where
     stays : {s : Side} {x : ℕ} → Outward s (x ∷ [])
     steps : {s : Side} {x y : ℕ} {ys : List ℕ} → retained x s < 4 → y ≡ forward K x (leaving s (retained x s))
-        → (retained y (entrance K y) ≡ 4 → ⊥) → Outward (opposite (entrance K y)) (y ∷ ys) → Outward s (x ∷ y ∷ ys)
+        → stored ks (canon K y) ≡ true → (retained y (entrance K y) ≡ 4 → ⊥) → Outward (opposite (entrance K y)) (y ∷ ys) → Outward s (x ∷ y ∷ ys)
 
   -- Outward from the label's smallest k-mer that is not isolated, in the reading where that stands canonical: to its right by
   -- Back, and to its left, on the other strand, by Front.
@@ -101,6 +101,8 @@ module _ (K : ℕ) (ks : List ℕ) (es : List Ends) where
     -- Outward from a label's smallest non-isolated k-mer, each step leaves by the only edge retained on that side and enters by a
     -- side with at most one."
     pub outward : Each FromSmallest ls
+    -- Not in the customer's words: every letter is A, C, G or T.
+    pub letters : Each Plain ls
 
   -- Demand 3.
   pub record Demand3 (ls : List (List ℕ)) : Type 0 where

@@ -9,6 +9,7 @@ use Rattle.kmer.specs.Kmer.{canon, forward}
 use Rattle.state.specs.declared.Side.{Side}
 use Rattle.state.specs.Counted.{Kind, opposite}
 use Rattle.graph.specs.Sightings.{Sighting, Rule, window, windows, sightings}
+use Rattle.graph.specs.Table.{tableOf}
 use Rattle.graph.specs.Walks.{seen, leaving}
 use Rattle.graph.specs.Adding.{Edges, addLabel}
 
@@ -19,6 +20,9 @@ pub data Grown (κ : Kind) (rule : Rule) (K : ℕ) : List (List ℕ) → ℕ →
   accepts : {ls : List (List ℕ)} {n : ℕ} {keys counts : List ℕ} → Grown κ rule K ls n keys counts
       → (l : List ℕ) (e : Edges) → addLabel κ rule K n keys counts l .answer ≡ gives e
       → Grown κ rule K (l ∷ ls) (e .stored) (addLabel κ rule K n keys counts l .keys) (addLabel κ rule K n keys counts l .counts)
+  -- The same vertices in other slices, or behind them other cells.
+  moves : {ls : List (List ℕ)} {n : ℕ} {keys counts : List ℕ} → Grown κ rule K ls n keys counts
+      → (keys′ counts′ : List ℕ) → tableOf n keys′ counts′ ≡ tableOf n keys counts → Grown κ rule K ls n keys′ counts′
 
 -- x is the canonical k-mer of one of a label's first m windows.
 unfoldable pub shows : ℕ → List ℕ → ℕ → ℕ → Bool

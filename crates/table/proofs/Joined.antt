@@ -8,7 +8,6 @@ use lib.ListN.{length, take}
 use Rattle.dna.specs.Text.{over}
 use Rattle.graph.specs.Table.{keysOf, wordsOf, capacity}
 use Rattle.table.specs.Join.{rising, putIn, placed, joinCall, Joins}
-use Rattle.table.specs.declared.JoinAnswer.{JoinAnswer}
 use Rattle.table.specs.declared.JoinAnswer.the-variants.{Joined, Full, Misplaced}
 
 module _ (n : ℕ) (keys counts : List ℕ) (m : ℕ) (places new-keys new-counts : List ℕ) where

@@ -13,7 +13,7 @@ returns c =
     let read = turned .before .before in
     let s = read .before .before .before in
     let e : s .args .o + s .args .k - s .args .o ≡ s .args .k = omega arith in
-    window-seen (s .pre .0) (s .args .o) (s .pre .1) (rw e at (read .from-valid-ascii .ensures))
+    window-seen (s .pre .0) (s .args .o) (s .pre .1) (rw e at (read .from-ascii .ensures))
     (turned .canonical .ensures) (c .is-less .ensures)
 
 pub see-spec : {M : Type 1} → statement M

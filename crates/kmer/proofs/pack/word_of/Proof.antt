@@ -5,7 +5,8 @@ use native.Mathlib.Omega.{arith}
 use lib.ListN.{length, take}
 use lib.Seq.{take-length}
 use Rattle.dna.proofs.Letters.{valid-small}
-use Rattle.kmer.specs.Kmer.{onto, validPacked}
+use Rattle.kmer.specs.Kmer.{onto}
+use Rattle.kmer.specs.Packing.{validPacked}
 use Rattle.kmer.proofs.Packing.{word-more}
 use borrow.Author.Needs.{needs}
 use Rattle.kmer.proofs.pack.word_of.Statement.{statement}

@@ -4,7 +4,8 @@ use Prim.Native.Nat.{ℕ, _^_, _<_}
 use native.Mathlib.Omega.{arith}
 use lib.Dec.{lit<}
 use Rattle.kmer.proofs.Turned.{turned, same, comp-same, rc-turned}
-use Rattle.kmer.proofs.Swaps.{evens, swaps, step, step-is, flipped}
+use Rattle.kmer.proofs.Fields.{lows}
+use Rattle.kmer.proofs.Swaps.{swaps, step, step-is, flipped}
 use Rattle.kmer.proofs.reverse.flip.Statement.{statement}
 use Rattle.kmer.proofs.reverse.flip.Tie as tie
 
@@ -24,7 +25,7 @@ abbrev m₃₂ : ℕ
 m₃₂ = 0x0000_0000_ffff_ffff
 
 five-steps : (x : ℕ) → x < 2 ^ 64 → step m₃₂ 32 (step m₁₆ 16 (step m₈ 8 (step m₄ 4 (step m₂ 2 x)))) ≡ turned same 32 x
-unfolding evens
+unfolding lows
 five-steps x h =
     let e₁ = step-is m₂ 2 16 x refl (lit< tt) in
     let e₂ = step-is m₄ 4 8 (step m₂ 2 x) refl (lit< tt) ∙ ap (swaps 4 8) e₁ in

@@ -1,0 +1,104 @@
+-- Each answer of the definitions of adding and of contraction is told by a case of the calls' enums. Assumes nothing.
+use mathlib.Core.Path.{_≡_, refl}
+use mathlib.Core.Bool.{not, _||_}
+use mathlib.Core.List.{List, [], _∷_}
+use Prim.Native.Nat.{ℕ, suc}
+use lib.Dec.{ltb}
+use lib.ListN.{length}
+use Rattle.lemmas.proofs.Tests.{choose}
+use Rattle.dna.specs.Letters.{isBase, firstBad}
+use Rattle.dna.specs.Answer.{Answer}
+use Rattle.dna.proofs.Answers.{either}
+use Rattle.kmer.specs.Kmer.{okK}
+use Rattle.state.specs.Counted.{fourBits}
+use Rattle.graph.specs.Table.{tableOf, keysOf, capacity, fit}
+use Rattle.graph.specs.Sightings.{sameCanonical}
+use Rattle.graph.specs.Adding.{Edges, Added, added, addBases, addLabel}
+use Rattle.graph.specs.Entries.{listed, within}
+use Rattle.graph.specs.Several.{Several, untried, addNext, addEach, addLabels}
+use Rattle.graph.specs.Labels.{Run, run}
+use Rattle.graph.specs.Contraction.{Contracted, endToEnd, endsIn, written, finish, contract}
+use Rattle.adding.specs.declared.AddAnswer.{AddAnswer}
+use Rattle.adding.specs.declared.AddAnswer.the-variants as one
+use Rattle.adding.specs.declared.LabelsAnswer.{LabelsAnswer}
+use Rattle.adding.specs.declared.LabelsAnswer.the-variants as many
+use Rattle.adding.specs.Says.{addAnswer, labelsSay}
+use Rattle.contraction.specs.declared.ContractAnswer.{ContractAnswer}
+use Rattle.contraction.specs.declared.ContractAnswer.the-variants as all
+use Rattle.contraction.specs.Says.{contractAnswer}
+
+-- ---- adding
+
+abbrev Told : Answer Edges → Type 0
+Told a = (x : AddAnswer) × (addAnswer x ≡ a)
+
+abbrev ToldIn : Added → Type 0
+ToldIn a = Told (a .answer)
+
+-- A bad place comes with its byte and nothing else.
+bad-told : (P : List ℕ → Type 0) → P [] → ((place byte : ℕ) → P (place ∷ byte ∷ [])) → (i : ℕ) (s : List ℕ) → P (firstBad i s)
+unfolding firstBad
+bad-told P none at i [] = none
+bad-told P none at i (b ∷ s) = choose P (isBase b) (λ _. bad-told P none at (suc i) s) (λ _. at i b)
+
+pub add-told : (K n : ℕ) (keys counts label : List ℕ) → Told (addLabel fourBits sameCanonical K n keys counts label .answer)
+unfolding addLabel addBases
+add-told K n keys counts label =
+    choose ToldIn (not (okK K)) (λ _. (one.UnsupportedK K, refl))
+    (λ _. choose ToldIn (not (fit K n keys counts)) (λ _. (one.Unfit, refl))
+    (λ _. choose ToldIn (ltb 4096 (length label)) (λ _. (one.TooLong (length label), refl))
+    (λ _. choose ToldIn (ltb (length label) K) (λ _. (one.Added 0 n, refl))
+    (λ _. bad-told (λ (bad : List ℕ). ToldIn (addBases fourBits sameCanonical K n keys counts label bad)) bases bad-place 0 label))))
+  where
+    bases : ToldIn (addBases fourBits sameCanonical K n keys counts label [])
+    bases =
+        let t = added fourBits sameCanonical K label (tableOf n keys counts) in
+        choose ToldIn (ltb (capacity keys counts) (length (t .keys))) (λ _. (one.Full, refl)) (λ _. (one.Added _ _, refl))
+
+    bad-place : (place byte : ℕ) → ToldIn (addBases fourBits sameCanonical K n keys counts label (place ∷ byte ∷ []))
+    bad-place place byte = (one.InvalidBase place byte, refl)
+
+-- ---- many labels
+
+module _ (K : ℕ) where
+  each-told : (s : Several) (ls : List (List ℕ)) → Told (s .answer) → Told (addEach fourBits sameCanonical K s ls .answer)
+  unfolding addEach addNext
+  each-told s [] h = h
+  each-told s (l ∷ ls) h =
+      let a = addLabel fourBits sameCanonical K (s .stored) (s .keys) (s .counts) l in
+      either (λ (t : Several). Told (t .answer)) (s .answer)
+      (λ _ _. either (λ (t : Several). Told (addEach fourBits sameCanonical K t ls .answer)) (a .answer)
+      (λ e _. each-told _ ls (one.Added (e .edges) (e .stored), refl))
+      (λ r vs q. each-told _ ls (rw q at (add-told K (s .stored) (s .keys) (s .counts) l))))
+      (λ r vs q. h)
+
+  pub labels-told : (n : ℕ) (keys counts text starts lengths : List ℕ) (count : ℕ)
+      → (x : LabelsAnswer) × labelsSay n x (addLabels fourBits sameCanonical K n keys counts text starts lengths count)
+  unfolding addLabels
+  labels-told n keys counts text starts lengths count =
+      let s = addEach fourBits sameCanonical K (untried n keys counts) (listed count text starts lengths) in
+      let last = each-told (untried n keys counts) (listed count text starts lengths) (one.Added 0 n, refl) in
+      choose (λ (t : Several). (x : LabelsAnswer) × labelsSay n x t) (within text count starts lengths)
+      (λ _. (many.Tried (s .labels) (s .stored) (last .0), (refl, refl, last .1))) (λ _. (many.OutOfText, (refl, refl, refl)))
+
+-- ---- contraction
+
+module _ (K cutoff n : ℕ) (keys counts labels starts lengths marks : List ℕ) where
+  abbrev ToldAll : Contracted → Type 0
+  ToldAll c = (x : ContractAnswer) × (contractAnswer x ≡ c .answer)
+
+  finish-told : (r : Run) → ToldAll (finish fourBits K cutoff n keys counts labels starts lengths marks r)
+  unfolding finish written
+  finish-told r =
+      choose ToldAll (r .missed) (λ _. (all.MissingVertex, refl))
+      (λ _. choose ToldAll (ltb (length labels) (length (endToEnd (r .labels))) || ltb (length starts) (length (r .labels))
+      || ltb (length lengths) (length (r .labels)))
+      (λ _. (all.NoRoom, refl)) (λ _. (all.Contracted _ _, refl)))
+
+  pub contract-told : ToldAll (contract fourBits K cutoff n keys counts labels starts lengths marks)
+  unfolding contract
+  contract-told =
+      choose ToldAll (not (okK K)) (λ _. (all.UnsupportedK K, refl))
+      (λ _. choose ToldAll (not (fit K n keys counts)) (λ _. (all.Unfit, refl))
+      (λ _. choose ToldAll (ltb (length marks) n) (λ _. (all.FewMarks, refl))
+      (λ _. finish-told (run K (keysOf n keys) (endsIn fourBits cutoff (tableOf n keys counts)) n))))
