@@ -1,5 +1,5 @@
 -- The customer's demand 3 as a fact about every run of the code: a table made by calls of `add_label` and `add_labels`, and a call of `contract`
--- over it that is not refused. Assumes nothing.
+-- over it that is not refused; and what else is known of such a call's answer and slices. Assumes nothing.
 use mathlib.Core.Path.{_≡_, sym, ap, _∙_}
 use mathlib.Core.Bool.{true}
 use mathlib.Core.Logic.{_⊎_}

@@ -45,11 +45,12 @@ module _ (K : ℕ) (ks : List ℕ) (es : List Ends) where
   retained x s = cond (stored ks (canon K x)) (edge es (rank ks (canon K x)) s) 5
 
   -- Along k-mers as they are seen, the first left by side s: each step leaves by the only edge retained on that side and enters
-  -- by a side with at most one; a k-mer seen canonical is entered by Front and left by Back, any other the reverse.
+  -- a stored k-mer by a side with at most one; one seen canonical is entered by Front and left by Back, any other the reverse.
   pub data Outward : Side → List ℕ → Type 0 where
     stays : {s : Side} {x : ℕ} → Outward s (x ∷ [])
     steps : {s : Side} {x y : ℕ} {ys : List ℕ} → retained x s < 4 → y ≡ forward K x (leaving s (retained x s))
-        → stored ks (canon K y) ≡ true → (retained y (entrance K y) ≡ 4 → ⊥) → Outward (opposite (entrance K y)) (y ∷ ys) → Outward s (x ∷ y ∷ ys)
+        → stored ks (canon K y) ≡ true → (retained y (entrance K y) ≡ 4 → ⊥)
+        → Outward (opposite (entrance K y)) (y ∷ ys) → Outward s (x ∷ y ∷ ys)
 
   -- Outward from the label's smallest k-mer that is not isolated, in the reading where that stands canonical: to its right by
   -- Back, and to its left, on the other strand, by Front.
