@@ -14,8 +14,8 @@
  *
  * A table of n vertices is keys, two words a vertex, low word first, and counts, one word of eight four-bit counters a vertex.
  * Its capacity is the least of half the keys' length, the counts' length and 65,536. An empty table is n = 0, whatever the
- * slices hold. It is fit if n is at most the capacity and the keys strictly ascend, are canonical and below 4 to the K. A full
- * table goes on in larger slices: copy the first 2 n words of keys and n of counts.
+ * slices hold. It is fit if n is at most the capacity and the keys strictly ascend, are canonical and below 4 to the K. A table
+ * too full for a label goes on in larger slices, up to 65,536 vertices: copy the first 2 n words of keys and n of counts.
  */
 #ifndef LASHGRANARY_H
 #define LASHGRANARY_H

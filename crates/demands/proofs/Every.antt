@@ -16,10 +16,14 @@ use Rattle.dna.specs.Text.{bytes, over}
 use Rattle.dna.specs.Answer.{Answer, gives, refuses, Filled, fill}
 use Rattle.dna.proofs.Answers.{either}
 use Rattle.kmer.specs.Kmer.{okK}
+use Rattle.state.specs.Counted.{fourBits}
+use Rattle.graph.specs.Sightings.{sameCanonical}
 use Rattle.graph.specs.Adding.{Edges}
 use Rattle.graph.specs.Entries.{listed, within}
+use Rattle.graph.specs.Several.{untried}
 use Rattle.graph.specs.Contraction.{Totals, Contracted}
 use Rattle.graph.specs.Fasta.{recordsOf, fasta}
+use Rattle.graph.proofs.Several.{each-all}
 use Rattle.label_file.specs.LabelFile.{LabelFile, damaged, holds, fileOf}
 use Rattle.label_file.specs.Output.{Buffers, Left, withTable, withList, withText, decimal, refusal, refused, printed, listedAfter, listAll, output}
 use Rattle.label_file.specs.Output.{zeros, printing, unitigs}
@@ -70,6 +74,10 @@ room = length-replicate {A = ℕ} 8192 0
 line : (r p : ℕ) (b : Buffers) → length (b .text) ≡ 8192 → printing (refused r p b) ≡ refusal r p
 line r p b l = refused-printed r p b (omega arith)
 
+-- Where no label is refused, all were added.
+all-added : (K : ℕ) (labels : List (List ℕ)) {e : Edges} → table K labels .answer ≡ gives e → table K labels .labels ≡ length labels
+all-added K labels added = each-all fourBits sameCanonical K (untried 0 (zeros .keys) (zeros .counts)) labels added ∙ omega arith
+
 module _ (file : List ℕ) where
   abbrev Fine : Left → Type 0
   Fine l = Prints file (printing l)
@@ -88,10 +96,13 @@ module _ (file : List ℕ) where
         let all = recordsOf (list K cutoff labels (t .labels)) in
         let w = list-inside K cutoff labels given in
         ⊎-elim (λ (h : length (b .text) < length all). rw (list-refused p b c given w h)
-        (refusing (exceeds sound ok added given (omega arith)) (line 11 p (withList b c) l)))
+        (refusing (exceeds sound ok added given (omega arith))
+        (line 11 p (withList b c) l ∙ ap (λ (n : ℕ). refusal 11 (suc n)) (all-added K labels added))))
         (λ h. listing sound ok added given (omega arith) (list-printed p b c given w h) (list-meets K cutoff labels given))
         (lt-or-ge (length (b .text)) (length all))
-    of-table added b l (refuses r vs) e = rw (e, listedAfter) (refusing (contraction sound ok added e) (line r p (withList b c) l))
+    of-table added b l (refuses r vs) e =
+        rw (e, listedAfter)
+        (refusing (contraction sound ok added e) (line r p (withList b c) l ∙ ap (λ (n : ℕ). refusal r (suc n)) (all-added K labels added)))
 
     of-labels : Fine (listAll K cutoff labels zeros)
     unfolding listAll
@@ -125,6 +136,7 @@ module _ (file : List ℕ) where
       let s = table K labels in
       ap printing (lists file e ok added)
       ∙ rw (h, listedAfter) (line r (suc (s .labels)) (withList (withTable zeros (s .keys) (s .counts)) (result K cutoff labels)) room)
+      ∙ ap (λ (n : ℕ). refusal r (suc n)) (all-added K labels added)
   refuses-so (exceeds {K} {cutoff} {labels} e ok added {t} given h) =
       let s = table K labels in
       let b = withTable zeros (s .keys) (s .counts) in
@@ -132,8 +144,35 @@ module _ (file : List ℕ) where
       ap printing (lists file e ok added)
       ∙ ap printing (list-refused (suc (s .labels)) b q given (list-inside K cutoff labels given) (omega (arith, room)))
       ∙ line 11 (suc (s .labels)) (withList b q) room
+      ∙ ap (λ (n : ℕ). refusal 11 (suc n)) (all-added K labels added)
 
   -- So `Prints` allows one text for each file.
   pub program-only : {text : List ℕ} → Prints file text → text ≡ unitigs file
   program-only (refusing why e) = e ∙ sym (refuses-so why)
   program-only (listing sound ok added given fits e met) = e ∙ sym (program-prints file sound ok added given fits .0)
+
+-- ---- the reason fixes the refusal's number and the record's
+
+-- The two numbers, by the same cases: after the labels, and for a file.
+listNumbers : ℕ → ℕ → List (List ℕ) → ℕ × ℕ
+listNumbers K cutoff labels = elim (result K cutoff labels .answer) [ gives t ↦ (11, suc (length labels)) | refuses r vs ↦ (r, suc (length labels)) ]
+
+labelNumbers : ℕ → ℕ → List (List ℕ) → ℕ × ℕ
+labelNumbers K cutoff labels =
+    let s = table K labels in
+    elim (s .answer) [ gives e ↦ listNumbers K cutoff labels | refuses r vs ↦ (r, suc (s .labels)) ]
+
+numbers : List ℕ → ℕ × ℕ
+numbers file = elim (fileOf file) [ damaged i ↦ (13, i) | holds K cutoff labels ↦ cond (okK K) (labelNumbers K cutoff labels) (1, 0) ]
+
+refuses-numbers : {file : List ℕ} {r p : ℕ} → Refuses file r p → numbers file ≡ (r, p)
+unfolding numbers labelNumbers listNumbers
+refuses-numbers (form e) = rw (e, numbers)
+refuses-numbers (bad-k e bad) = rw (e, numbers, bad)
+refuses-numbers (label e ok h) = rw (e, numbers, ok, h, labelNumbers)
+refuses-numbers (contraction e ok added h) = rw (e, numbers, ok, added, labelNumbers, h, listNumbers)
+refuses-numbers (exceeds e ok added given h) = rw (e, numbers, ok, added, labelNumbers, given, listNumbers)
+
+pub refuses-one : {file : List ℕ} {r p r′ p′ : ℕ} → Refuses file r p → Refuses file r′ p′ → (r ≡ r′) × (p ≡ p′)
+refuses-one a b =
+    let e = sym (refuses-numbers a) ∙ refuses-numbers b in (ap (λ (n : ℕ × ℕ). n .0) e, ap (λ (n : ℕ × ℕ). n .1) e)

@@ -10,11 +10,12 @@ use lib.ListN.{getD, replicate}
 use Rattle.dna.specs.Text.{bytes, openText}
 use Rattle.dna.specs.Letters.{openLetters}
 use Rattle.dna.specs.Order.{openOrder}
+use Rattle.dna.specs.Answer.{refuses}
 use Rattle.kmer.specs.Kmer.{openKmer}
 use Rattle.state.specs.Counted.{fourBits, openCounted}
 use Rattle.graph.specs.Table.{tableOf, keysOf, openTable}
-use Rattle.graph.specs.Sightings.{openSightings}
-use Rattle.graph.specs.Adding.{openAdding}
+use Rattle.graph.specs.Sightings.{sameCanonical, openSightings}
+use Rattle.graph.specs.Adding.{addLabel, openAdding}
 use Rattle.graph.specs.Entries.{listed, openEntries}
 use Rattle.graph.specs.Several.{openSeveral}
 use Rattle.graph.specs.Walks.{isolated, openWalks}
@@ -31,7 +32,7 @@ use Rattle.laws.specs.Demand.{Demand3}
 use Rattle.demands.specs.Calls.{Called, Called.fresh, Called.adds, Called.adds-many, Called.moves}
 use Rattle.demands.specs.Printed.{Refuses, Refuses.form, Refuses.bad-k, Refuses.label}
 use Rattle.demands.proofs.Meets.{call-isolated}
-use Rattle.demands.proofs.ThroughC.{c-called, c-meets}
+use Rattle.demands.proofs.ThroughC.{c-called, c-refused, c-called-many, c-meets}
 
 -- P4's labels, CAT and ATG, by one call of `add_labels`.
 pub p4-called : Called 2 (bytes "ATG" ∷ bytes "CAT" ∷ []) 2 (3 ∷ 0 ∷ 4 ∷ 0 ∷ []) (0x01000010 ∷ 0x20000000 ∷ [])
@@ -40,7 +41,11 @@ p4-called =
     adds-many (fresh (9 ∷ 9 ∷ 9 ∷ 9 ∷ []) (7 ∷ 7 ∷ [])) (bytes "CATATG") (0 ∷ 3 ∷ []) (3 ∷ 3 ∷ []) 2 {r = Tried 2 2 (Added 1 2)}
     (record { says = (refl, refl, refl); keys-after = refl; counts-after = refl })
 
--- P1's label in room for two vertices, copied with room for three, and AAA added there: in the first slices it is refused with 6.
+-- P1's label in room for two vertices, where AAA is refused with 6; copied to room for three, and AAA added there.
+pub p1-full : addLabel fourBits sameCanonical 3 2 (5 ∷ 0 ∷ 21 ∷ 0 ∷ []) (0x00100000 ∷ 0x00100001 ∷ []) (bytes "AAA") .answer ≡ refuses 6 []
+unfolding openText openLetters openKmer openCounted openTable openSightings openAdding
+p1-full = refl
+
 pub p1-moved : Called 3 (bytes "AAA" ∷ bytes "ACCCC" ∷ []) 3 (0 ∷ 0 ∷ 5 ∷ 0 ∷ 21 ∷ 0 ∷ []) (0 ∷ 0x00100000 ∷ 0x00100001 ∷ [])
 unfolding openText openLetters openKmer openCounted openTable openSightings openAdding openEntries openSeveral
 p1-moved =
@@ -83,13 +88,29 @@ keys₂ = 5 ∷ 0 ∷ 21 ∷ 0 ∷ []
 abbrev counts₂ : List ℕ
 counts₂ = 0x00100000 ∷ 0x00100001 ∷ []
 
--- The figures are the edges and the number stored; of a third cell nothing is said.
+-- The figures are the edges and the number stored; a third cell stays as it was.
 pub p1-through-c : Called 3 (bytes "ACCCC" ∷ []) 2 keys₂ counts₂
 unfolding openText openLetters openKmer openCounted openTable openSightings openAdding noted
 p1-through-c =
     c-called 3 0 (9 ∷ 9 ∷ 9 ∷ 9 ∷ []) (7 ∷ 7 ∷ []) (bytes "ACCCC") {r = 0} {figures₀ = 8 ∷ 8 ∷ 8 ∷ []} {figures′ = 2 ∷ 2 ∷ 8 ∷ []}
     (record { number = refl; figures-after = refl; keys-after = refl; counts-after = refl }) (fresh (9 ∷ 9 ∷ 9 ∷ 9 ∷ []) (7 ∷ 7 ∷ [])) refl
     (omega arith)
+
+-- ACCN is then refused with 3, and the table is as it was.
+pub p1-refused-through-c : Called 3 (bytes "ACCCC" ∷ []) 2 keys₂ counts₂
+unfolding openText openLetters openKmer openCounted openTable openSightings openAdding noted
+p1-refused-through-c =
+    c-refused 3 2 keys₂ counts₂ (bytes "ACCN") {r = 3} {figures₀ = zeros 2} {figures′ = 3 ∷ 78 ∷ []}
+    (record { number = refl; figures-after = refl; keys-after = refl; counts-after = refl }) p1-through-c (λ e. omega arith)
+
+-- P4's labels by one call.
+pub p4-through-c : Called 2 (bytes "ATG" ∷ bytes "CAT" ∷ []) 2 (3 ∷ 0 ∷ 4 ∷ 0 ∷ []) (0x01000010 ∷ 0x20000000 ∷ [])
+unfolding openText openLetters openKmer openCounted openTable openSightings openAdding openEntries openSeveral noted
+p4-through-c =
+    c-called-many 2 0 (9 ∷ 9 ∷ 9 ∷ 9 ∷ []) (7 ∷ 7 ∷ []) (bytes "CATATG") (0 ∷ 3 ∷ []) (3 ∷ 3 ∷ []) 2 {r = 0} {totals₀ = zeros 2} {totals′ = 2 ∷ 2 ∷ []}
+    {figures₀ = []} {figures′ = []}
+    (record { number = refl; totals-after = refl; figures-after = refl; keys-after = refl; counts-after = refl })
+    (fresh (9 ∷ 9 ∷ 9 ∷ 9 ∷ []) (7 ∷ 7 ∷ [])) (omega arith)
 
 pub p1-met-through-c : Demand3 3 (keysOf 2 keys₂) (endsIn fourBits 1 (tableOf 2 keys₂ counts₂))
     (listed 1 (bytes "ACCC" ++ zeros 2) (zeros 2) (4 ∷ 0 ∷ []))

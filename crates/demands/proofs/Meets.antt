@@ -1,11 +1,11 @@
 -- The customer's demand 3 as a fact about every run of the code: a table made by calls of `add_label` and `add_labels`, and a call of `contract`
 -- over it that is not refused; and what else is known of such a call's answer and slices. Assumes nothing.
-use mathlib.Core.Path.{_≡_, sym, ap, _∙_}
+use mathlib.Core.Path.{_≡_, sym, ap, ap₂, _∙_}
 use mathlib.Core.Bool.{true}
 use mathlib.Core.Logic.{_⊎_}
 use mathlib.Core.List.{List, []}
 use Prim.Native.Nat.{ℕ, _*_, _%_, _≤_, _<_}
-use lib.ListN.{length, getD}
+use lib.ListN.{length, getD, take}
 use Rattle.dna.specs.Answer.{gives, refuses}
 use Rattle.state.specs.Counted.{fourBits}
 use Rattle.graph.specs.Table.{tableOf, keysOf}
@@ -14,6 +14,7 @@ use Rattle.graph.specs.Adding.{addLabel}
 use Rattle.graph.specs.Entries.{listed}
 use Rattle.graph.specs.Walks.{isolated}
 use Rattle.graph.specs.Contraction.{Totals, Contracted, endsIn, contract}
+use Rattle.graph.proofs.Keys.{keys-copied}
 use Rattle.graph.proofs.Accepted.{refused-same}
 use Rattle.adding.specs.declared.AddAnswer.{AddAnswer}
 use Rattle.adding.specs.Says.{addAnswer, Adds}
@@ -49,6 +50,13 @@ pub called-refused : {K : ℕ} {ls : List (List ℕ)} {n : ℕ} {keys counts : L
 called-refused {K} {n = n} {keys = keys} {counts = counts} c l a x vs e =
     let s = refused-same fourBits sameCanonical K n keys counts l x vs (sym (a .answer) ∙ e) in
     rw (a .keys-after, a .counts-after, s .keys-same, s .counts-same) c
+
+-- A caller may copy the vertices: two words of keys and one of counts for each.
+pub called-copied : {K : ℕ} {ls : List (List ℕ)} {n : ℕ} {keys counts : List ℕ} → Called K ls n keys counts
+    → (keys′ counts′ : List ℕ) → take (2 * n) keys′ ≡ take (2 * n) keys → take n counts′ ≡ take n counts → Called K ls n keys′ counts′
+called-copied {n = n} {keys = keys} c keys′ counts′ p q =
+    let ks : keysOf n keys′ ≡ keysOf n keys = sym (keys-copied n keys′) ∙ ap (keysOf n) p ∙ keys-copied n keys in
+    elsewhere c keys′ counts′ (ap₂ (λ (k w : List ℕ). record { keys = k; counts = w }) ks q)
 
 -- A call of `contract`, known by its contract.
 module _ (K cutoff n : ℕ) (keys counts labels starts lengths marks : List ℕ) {r : ContractAnswer} {labels′ starts′ lengths′ marks′ : List ℕ}

@@ -2,7 +2,7 @@
 -- through C, in which the caller reads the figures. Assumes nothing.
 use mathlib.Core.Path.{_≡_, refl, sym, ap, ap₂, _∙_}
 use mathlib.Core.List.{List, [], _∷_}
-use Prim.Native.Nat.{ℕ, _≤_}
+use Prim.Native.Nat.{ℕ, _*_, _≤_}
 use native.Mathlib.Omega.{arith}
 use lib.ListN.{length, getD, take}
 use Rattle.state.specs.Counted.{fourBits}
@@ -24,7 +24,7 @@ use Rattle.capi.specs.Says.{numberOf, figures, noted, ofEdges, ofTotals, AddsLa
 use Rattle.laws.specs.Demand.{Demand3}
 use Rattle.demands.specs.Calls.{Called, Called.adds, Called.adds-many, onto}
 use Rattle.demands.proofs.Told.{add-told, labels-told, contract-told}
-use Rattle.demands.proofs.Meets.{called-refused, call-meets}
+use Rattle.demands.proofs.Meets.{called-refused, call-meets, call-fits}
 
 -- Two figures in a slice that has room for them.
 two-noted : (a b : ℕ) (slice : List ℕ) → 2 ≤ length slice
@@ -140,3 +140,17 @@ module _ (K cutoff n : ℕ) (keys counts labels starts lengths marks : List ℕ)
       go all.FewMarks a q f = absurd (omega arith)
       go all.MissingVertex a q f = absurd (omega arith)
       go all.NoRoom a q f = absurd (omega arith)
+
+  -- With room for n times K bases and n entries 9 is never returned.
+  pub c-fits : K * n ≤ length labels → n ≤ length starts → n ≤ length lengths → r ≡ 9 → ⊥
+  c-fits b s l e = go (c-contracts .0) (c-contracts .1) (c-contracts .2)
+    where
+      go : (a : ContractAnswer)
+          → Contracts a labels′ starts′ lengths′ marks′ (contract fourBits K cutoff n keys counts labels starts lengths marks)
+          → r ≡ numberOf (contractAnswer a) → ⊥
+      go (all.Contracted number bases) a q = omega arith
+      go (all.UnsupportedK k) a q = omega arith
+      go all.Unfit a q = omega arith
+      go all.FewMarks a q = omega arith
+      go all.MissingVertex a q = omega arith
+      go all.NoRoom a q = call-fits K cutoff n keys counts labels starts lengths marks a b s l refl

@@ -1,4 +1,4 @@
--- A table made by calls of `add_label` and `add_labels` alone. Assumes nothing.
+-- A table made by calls of `add_label` and `add_labels`, between which its vertices may be copied to other slices. Assumes nothing.
 use Prim.Native.Nat.{ℕ}
 use mathlib.Core.Path.{_≡_}
 use mathlib.Core.List.{List, [], _∷_}
@@ -29,8 +29,8 @@ abbrev pub storedBy : ℕ → LabelsAnswer → ℕ
 storedBy n (many.Tried added stored last) = stored
 storedBy n many.OutOfText = n
 
--- At one K and from none stored: the labels that were added, last one first, and the number stored and the two lent slices as the last call left
--- them. A call is known by its contract. One of `add_labels` adds the first of its labels, up to one that is refused.
+-- At one K and from none stored: the labels that were added, last one first, the number stored, and the two slices that hold the vertices. A call is
+-- known by its contract. One of `add_labels` adds the first of its labels, up to one that is refused.
 pub data Called (K : ℕ) : List (List ℕ) → ℕ → List ℕ → List ℕ → Type 0 where
   fresh : (keys counts : List ℕ) → Called K [] 0 keys counts
   adds : {ls : List (List ℕ)} {n : ℕ} {keys counts : List ℕ} → Called K ls n keys counts
@@ -40,6 +40,6 @@ pub data Called (K : ℕ) : List (List ℕ) → ℕ → List ℕ → List ℕ �
       → (text starts lengths : List ℕ) (count : ℕ) {r : LabelsAnswer} {keys′ counts′ : List ℕ}
       → AddsLabels n r keys′ counts′ (addLabels fourBits sameCanonical K n keys counts text starts lengths count)
       → Called K (onto (take (addedBy r) (listed count text starts lengths)) ls) (storedBy n r) keys′ counts′
-  -- The same vertices in other slices, as a caller copies them who was refused with 6.
+  -- The same vertices in other slices, or other cells behind them: so a caller goes on who was refused with 6.
   moves : {ls : List (List ℕ)} {n : ℕ} {keys counts : List ℕ} → Called K ls n keys counts
       → (keys′ counts′ : List ℕ) → tableOf n keys′ counts′ ≡ tableOf n keys counts → Called K ls n keys′ counts′

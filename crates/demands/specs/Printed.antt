@@ -45,8 +45,8 @@ list K cutoff labels count = let c = result K cutoff labels in listed count (c .
 
 -- ---- for a file
 
--- Why the program prints the line of a refusal, with its number and the record: the form of the file; its K; a label; contraction; or records
--- that exceed the text. Each comes after those before it.
+-- Why the program prints the line of a refusal, with its number and the record: the form of the file; its K; a label, in the record behind `KC` and the
+-- labels before it; and with the number of records, contraction, or a list that exceeds the text. Each comes after those before it.
 pub data Refuses (file : List ℕ) : ℕ → ℕ → Type 0 where
   form : {i : ℕ} → fileOf file ≡ damaged i → Refuses file 13 i
   bad-k : {K cutoff : ℕ} {labels : List (List ℕ)} → fileOf file ≡ holds K cutoff labels → okK K ≡ false → Refuses file 1 0
@@ -54,11 +54,11 @@ pub data Refuses (file : List ℕ) : ℕ → ℕ → Type 0 where
       → {r : ℕ} {vs : List ℕ} → table K labels .answer ≡ refuses r vs → Refuses file r (suc (table K labels .labels))
   contraction : {K cutoff : ℕ} {labels : List (List ℕ)} → fileOf file ≡ holds K cutoff labels → okK K ≡ true
       → {e : Edges} → table K labels .answer ≡ gives e
-      → {r : ℕ} {vs : List ℕ} → result K cutoff labels .answer ≡ refuses r vs → Refuses file r (suc (table K labels .labels))
+      → {r : ℕ} {vs : List ℕ} → result K cutoff labels .answer ≡ refuses r vs → Refuses file r (suc (length labels))
   text : {K cutoff : ℕ} {labels : List (List ℕ)} → fileOf file ≡ holds K cutoff labels → okK K ≡ true
       → {e : Edges} → table K labels .answer ≡ gives e
       → {t : Totals} → result K cutoff labels .answer ≡ gives t
-      → 8192 < length (recordsOf (list K cutoff labels (t .labels))) → Refuses file 11 (suc (table K labels .labels))
+      → 8192 < length (recordsOf (list K cutoff labels (t .labels))) → Refuses file 11 (suc (length labels))
 
 -- The line of a refusal for its reason; or, where nothing is refused, the records of the file's list, which meets demand 3.
 pub data Prints (file text : List ℕ) : Type 0 where

@@ -25,6 +25,17 @@ keys-most (suc n) (l ∷ h ∷ words) =
     let e : min (suc n) (suc (suc (length words)) / 2) ≡ suc (min n (length words / 2)) = omega arith in
     ap (λ (m : ℕ). keysOf m (l ∷ h ∷ words)) e ∙ ap (λ (ks : List ℕ). joined l h ∷ ks) (keys-most n words)
 
+-- They are read from their own words alone.
+pub keys-copied : (n : ℕ) (words : List ℕ) → keysOf n (take (2 * n) words) ≡ keysOf n words
+unfolding keysOf
+keys-copied zero words = refl
+keys-copied (suc n) [] = ap (keysOf (suc n)) (take-nil (2 * suc n))
+keys-copied (suc n) (l ∷ []) =
+    let e : 2 * suc n ≡ suc (suc (2 * n)) = omega arith in ap (λ (m : ℕ). keysOf (suc n) (take m (l ∷ []))) e
+keys-copied (suc n) (l ∷ h ∷ words) =
+    let e : 2 * suc n ≡ suc (suc (2 * n)) = omega arith in
+    ap (λ (m : ℕ). keysOf (suc n) (take m (l ∷ h ∷ words))) e ∙ ap (λ (ks : List ℕ). joined l h ∷ ks) (keys-copied n words)
+
 pub words-length : (ks : List ℕ) → length (wordsOf ks) ≡ 2 * length ks
 unfolding wordsOf
 words-length [] = refl

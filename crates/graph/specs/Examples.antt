@@ -72,6 +72,7 @@ fastaAt K t cutoff =
     let f = fasta (c .labels) (c .starts) (c .lengths) (labelsIn (c .answer)) (replicate 60 0) in
     take (bytesIn (f .answer)) (f .slice)
 
+-- Whether the Back walk of the first vertex, made before any other, closes a cycle.
 abbrev pub closesAt : ℕ → State → ℕ → Bool
 closesAt K t cutoff =
     let table = tableOf (t .stored) (t .keys) (t .counts) in

@@ -18,32 +18,32 @@ use Rattle.kmer.proofs.Windows.{Bases, bases-take, bases-append}
 use Rattle.kmer.proofs.Testing.{no-bad, no-bad-bases}
 use Rattle.kmer.proofs.Packing.{valid-append, valid-lt, word-lt}
 
--- The first i letters are held, and `odd` is 0 only where they are bases.
-pub record Held (s : List ℕ) (i lo hi odd : ℕ) : Type 0 where
+-- The first i letters are held, and `found` is 0 only where they are bases.
+pub record Held (s : List ℕ) (i lo hi found : ℕ) : Type 0 where
   pub fits : lo < 2 ^ 64
   pub value : joined lo hi ≡ validPacked (take i s)
-  pub clean : odd ≡ 0 → Bases (take i s)
+  pub clean : found ≡ 0 → Bases (take i s)
 
 -- A word of eight letters from place i on, their codes, and what is strange in them.
-pub record Eight (s : List ℕ) (i x codes odd : ℕ) : Type 0 where
+pub record Eight (s : List ℕ) (i x codes found : ℕ) : Type 0 where
   pub bytes : bytesIn 8 x ≡ take 8 (drop i s)
   pub packed : codes ≡ validPacked (bytesIn 8 x)
-  pub clean : odd ≡ 0 → firstBad 0 (bytesIn 8 x) ≡ []
+  pub clean : found ≡ 0 → firstBad 0 (bytesIn 8 x) ≡ []
 
-module _ {s : List ℕ} {i x codes odd : ℕ} (e : Eight s i x codes odd) where
+module _ {s : List ℕ} {i x codes found : ℕ} (e : Eight s i x codes found) where
   eight-codes : codes ≡ validPacked (take 8 (drop i s))
   eight-codes = e .packed ∙ ap validPacked (e .bytes)
 
-  eight-bases : odd ≡ 0 → Bases (take 8 (drop i s))
+  eight-bases : found ≡ 0 → Bases (take 8 (drop i s))
   eight-bases z = rw (e .bytes) at (no-bad-bases 0 (bytesIn 8 x) (e .clean z))
 
 or-zero : (a b : ℕ) → bitOr a b ≡ 0 → (a ≡ 0) × (b ≡ 0)
 or-zero a b h = (omega (arith, or-add-and a b, and-le-r a b), omega (arith, or-add-and a b, and-le-l a b))
 
 -- Of the first eight letters, the first n.
-pub held-first : (s : List ℕ) (n : ℕ) {x codes odd : ℕ} → Eight s 0 x codes odd → n ≤ 8 → 8 ≤ length s →
-    Held s n (codes / 2 ^ (16 - 2 * n)) 0 odd
-held-first s n {x} {codes} {odd} e h l =
+pub held-first : (s : List ℕ) (n : ℕ) {x codes found : ℕ} → Eight s 0 x codes found → n ≤ 8 → 8 ≤ length s →
+    Held s n (codes / 2 ^ (16 - 2 * n)) 0 found
+held-first s n {x} {codes} {found} e h l =
     let m : n + (8 - n) ≡ 8 = omega arith in
     let rest : List ℕ = take (8 - n) (drop n s) in
     let d : 8 - n ≤ length (drop n s) = simp length-drop (omega arith) in
@@ -62,12 +62,12 @@ held-first s n {x} {codes} {odd} e h l =
       clean = λ z. rw (take-take n 8 s h) at (bases-take n (take 8 s) (eight-bases e z));
     }
 
-module _ (s : List ℕ) (i lo hi odd : ℕ) (held : Held s i lo hi odd) where
+module _ (s : List ℕ) (i lo hi found : ℕ) (held : Held s i lo hi found) where
   -- Eight letters more.
-  pub held-next : {y codes odd₁ : ℕ} → Eight s i y codes odd₁ → i + 8 ≤ 63 → i + 8 ≤ length s →
+  pub held-next : {y codes found₁ : ℕ} → Eight s i y codes found₁ → i + 8 ≤ 63 → i + 8 ≤ length s →
       Held s (i + 8) (bitOr ((lo * 2 ^ 16) % 2 ^ 64) codes) (bitOr ((hi * 2 ^ 16) % 2 ^ 64) (lo / 2 ^ 48))
-      (bitOr odd odd₁)
-  held-next {y} {codes} {odd₁} e k h =
+      (bitOr found found₁)
+  held-next {y} {codes} {found₁} e k h =
       let behind : List ℕ = take 8 (drop i s) in
       let long : length (take 8 (drop i s)) ≡ 8 = length-take-le 8 (drop i s) (simp length-drop (omega arith)) in
       let c : codes < 2 ^ 16 = rw (sym (eight-codes e), long) at (valid-lt (take 8 (drop i s))) in
@@ -83,12 +83,12 @@ module _ (s : List ℕ) (i lo hi odd : ℕ) (held : Held s i lo hi odd) where
         fits = or-lt 64 ((lo * 2 ^ 16) % 2 ^ 64) codes (mod-lt (lo * 2 ^ 16) (pow-pos 64)) (omega arith);
         value = up-eight lo hi codes (held .fits) room c ∙ sym more;
         clean = λ z.
-            let o = or-zero odd odd₁ z in
+            let o = or-zero found found₁ z in
             rw (take-add i 8 s) (bases-append (take i s) behind (held .clean (o .0)) (eight-bases e (o .1)));
       }
 
   -- All of them.
-  pub held-all : (k : ℕ) → i ≡ k → Packs (take k s) (record { kmer = record { words = lo ∷ hi ∷ [] }; strange = odd })
+  pub held-all : (k : ℕ) → i ≡ k → Packs (take k s) (record { kmer = record { words = lo ∷ hi ∷ [] }; strange = found })
   held-all k e =
       let t = rw e at held in
       record {

@@ -69,17 +69,17 @@ either x = bitOr (x / 2 ^ 4) x
 abbrev pub set : ℕ → ℕ
 set x = bitAnd (x / 2 ^ 6) (either x)
 
-abbrev pub clear : ℕ → ℕ
-clear x = bitOr (either x / 2 ^ 3) (bitXor (x / 2 ^ 4) (thymine x))
+abbrev pub wrong : ℕ → ℕ
+wrong x = bitOr (either x / 2 ^ 3) (bitXor (x / 2 ^ 4) (thymine x))
 
 abbrev pub good : ℕ → ℕ
-good x = bitXor (set x) (bitAnd (set x) (clear x))
+good x = bitXor (set x) (bitAnd (set x) (wrong x))
 
 set-bytewise : Bytewise set
 set-bytewise = with-and (bit 6 (omega arith)) (with-or (bit 4 (omega arith)) whole)
 
-clear-bytewise : Bytewise clear
-clear-bytewise =
+wrong-bytewise : Bytewise wrong
+wrong-bytewise =
     let e : (x : ℕ) → bitOr (x / 2 ^ 7) (x / 2 ^ 3) ≡ either x / 2 ^ 3 =
     λ x. sym (or-shr (x / 2 ^ 4) x 3 ∙ ap (λ (n : ℕ). bitOr n (x / 2 ^ 3)) (shr-shr x 4 3)) in
     subst Bytewise (λ i x. bitOr (e x i) (bitXor (x / 2 ^ 4) (thymine x)))
@@ -88,7 +88,7 @@ clear-bytewise =
     (with-xor (bit 2 (omega arith)) (with-and (bit 2 (omega arith)) (bit 1 (omega arith))))))
 
 good-bytewise : Bytewise good
-good-bytewise = with-xor set-bytewise (with-and set-bytewise clear-bytewise)
+good-bytewise = with-xor set-bytewise (with-and set-bytewise wrong-bytewise)
 
 -- All 256 bytes are tried.
 good-byte : (b : ℕ) → b < 256 → eqb (good b % 2) 1 ≡ isBase b

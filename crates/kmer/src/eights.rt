@@ -34,7 +34,7 @@ fn eight(seq: &[u8], at: usize) -> u64
         | wide(seq[at + 7])
 }
 
-// The two bits of each letter are moved together: in pairs of letters, in fours, then all.
+// Each letter's code, by the two bits that a base has by itself, moved together: in pairs of letters, in fours, then all.
 fn codes(x: u64) -> u64
     ensures { λ r. ⌜ r ≡ validPacked (bytesIn 8 x) ⌝ }
 {
@@ -45,15 +45,16 @@ fn codes(x: u64) -> u64
 }
 
 // 0 only where all eight are bases, in either case. Of a base's bits, 7 and 3 are clear and 6 is set; 4 is set exactly
-// where 2 is and 1 is not, as in T and U; and 4 or 0 is set. Bit 0 of each byte of `good` says whether that is so of it.
+// where 2 is and 1 is not, as in T and U; and 4 or 0 is set. Bit 0 of each byte of `good` says whether that is so of it:
+// what must be set is, and nothing is wrong.
 fn strange(x: u64) -> u64
     ensures { λ r. ⌜ (r ≡ 0 → firstBad 0 (bytesIn 8 x) ≡ []) ⌝ }
 {
     let thymine = (x >> 2) ^ ((x >> 2) & (x >> 1));
     let either = (x >> 4) | x;
     let set = (x >> 6) & either;
-    let clear = (either >> 3) | ((x >> 4) ^ thymine);
-    let good = set ^ (set & clear);
+    let wrong = (either >> 3) | ((x >> 4) ^ thymine);
+    let good = set ^ (set & wrong);
     (good & 0x0101_0101_0101_0101) ^ 0x0101_0101_0101_0101
 }
 
@@ -66,17 +67,17 @@ pub(crate) fn pack(k: usize, seq: &[u8]) -> Packed
     let x = eight(seq, 0);
     let mut high = 0;
     let mut low = codes(x) >> (16 - 2 * first);
-    let mut odd = strange(x);
+    let mut found = strange(x);
     let mut i = first;
     while i < k {
         let y = eight(seq, i);
         high = (high << 16) | (low >> 48);
         low = (low << 16) | codes(y);
-        odd |= strange(y);
+        found |= strange(y);
         i += 8;
     }
     Packed {
         kmer: Kmer { words: [low, high] },
-        strange: odd,
+        strange: found,
     }
 }

@@ -44,7 +44,7 @@ fn letters_verdict(strange: u64, seq: &[u8]) -> KmerAnswer
     bases_verdict(seq)
 }
 
-// A few letters as one word.
+// Up to 32 letters as one word.
 fn word_of(seq: &[u8]) -> u64
     requires { ⌜ length (now seq) ≤ 32 ⌝ }
     ensures { λ r. ⌜ r ≡ validPacked (now (seq .entry)) ⌝ }
@@ -58,7 +58,7 @@ fn word_of(seq: &[u8]) -> u64
     word
 }
 
-// The first K letters, read by their bits; fewer than eight pass for strange.
+// The first K letters, read by their bits; fewer than eight are left to the test letter by letter.
 fn pack(k: usize, seq: &[u8]) -> Packed
     requires { ⌜ (k ≤ 63) × (k ≤ length (now seq)) ⌝ }
     ensures { λ r. ⌜ Packs (take k (now (seq .entry))) r ⌝ }

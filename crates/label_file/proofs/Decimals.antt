@@ -7,7 +7,7 @@ use Prim.Native.Nat.{ℕ, zero, suc, _+_, _*_, _-_, _/_, _%_, _^_, _<_}
 use native.Mathlib.Omega.{arith}
 use borrow.Author.Tests.{le-leb}
 use lib.Dec.{leb}
-use lib.ListN.{length, getD, length-append, List·getD-append}
+use lib.ListN.{length-append, List·getD-append}
 use Rattle.lemmas.proofs.Tests.{both}
 use Rattle.lemmas.proofs.Numbers.{lt-or-ge}
 use Rattle.dna.specs.Text.{bytes}

@@ -1,4 +1,4 @@
--- What a contraction returns besides the labels of demand 3: its marks, its two figures, and that it has room. Assumes nothing.
+-- What a contraction returns besides the labels of demand 3: a k-mer that is not isolated in each, marks, two figures; and that it has room. Assumes nothing.
 use mathlib.Core.Path.{_≡_, sym, ap, _∙_, subst}
 use mathlib.Core.Bool.{not, _||_}
 use mathlib.Core.List.{List, [], _∷_}

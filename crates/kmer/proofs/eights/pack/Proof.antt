@@ -8,10 +8,10 @@ use Rattle.kmer.proofs.eights.pack.Statement.{statement}
 use Rattle.kmer.proofs.eights.pack.Tie as tie
 
 abbrev Inv-loop : tie.InvT-loop
-Inv-loop k seq first x high₀ low₀ odd₀ i₀ high low odd i = (i ≤ k) × (i % 8 ≡ k % 8) × Held seq i low high odd
+Inv-loop k seq first x high₀ low₀ found₀ i₀ high low found i = (i ≤ k) × (i % 8 ≡ k % 8) × Held seq i low high found
 
 abbrev μ-loop : tie.MeasureT-loop
-μ-loop k seq first x high₀ low₀ odd₀ i₀ high low odd i = k - i
+μ-loop k seq first x high₀ low₀ found₀ i₀ high low found i = k - i
 
 loop-holds : tie.Need-loop-holds Inv-loop μ-loop
 loop-holds c =
@@ -35,7 +35,7 @@ loop-again c =
     let read = c .before .before .eight2 .ensures in (
       omega arith,
       omega arith,
-      held-next (s .args .seq .now) (l .i) (l .low) (l .high) (l .odd) (l .inv .2)
+      held-next (s .args .seq .now) (l .i) (l .low) (l .high) (l .found) (l .inv .2)
           (record { bytes = read; packed = c .before .codes2 .ensures; clean = c .strange2 .ensures })
           (omega arith) (omega arith),
     )
@@ -44,7 +44,7 @@ returns : tie.Need-returns Inv-loop μ-loop
 returns c =
     let l = c .before .loop in
     let s = c .before .before .before .before .before .before in
-    held-all (s .args .seq .now) (l .i) (l .low) (l .high) (l .odd) (l .inv .2) (s .args .k) (omega arith)
+    held-all (s .args .seq .now) (l .i) (l .low) (l .high) (l .found) (l .inv .2) (s .args .k) (omega arith)
 
 pub pack-spec : {M : Type 1} → statement M
 pack-spec =
