@@ -5,14 +5,11 @@ ghost use Rattle.dna.specs.Letters.{codeOf, letterOf, complement, isBase
 ghost use Rattle.dna.specs.Calls.{codeIn, bitsWhere};
 
 mod labels;
-mod tables;
 
 pub use labels::copy;
 pub use labels::least_rotation_start;
 pub use labels::minimal_rotation;
 pub use labels::reverse_complement_label;
-pub use tables::ASCII_BASE_BITS;
-pub use tables::ASCII_COMPLEMENT;
 
 // A base: N is a letter that is none, E is "no base".
 pub enum Base {
@@ -100,13 +97,6 @@ impl Base {
     }
 }
 
-// The code of a byte, which is 4 for what is no base.
-fn ascii_code(byte: u8) -> u8
-    ensures { λ r. ⌜ r ≡ codeOf byte ⌝ }
-{
-    ASCII_BASE_BITS[byte as usize]
-}
-
 // The letters are among the 64 bytes from 64 on, each case at the same places of its 32: the word has a bit set at the places of
 // A, C, G, T and U.
 pub fn is_dna_ascii(byte: u8) -> bool
@@ -121,7 +111,7 @@ pub fn is_dna_ascii(byte: u8) -> bool
 pub fn complement_ascii(byte: u8) -> u8
     ensures { λ r. ⌜ r ≡ complementLetter byte ⌝ }
 {
-    ASCII_COMPLEMENT[byte as usize]
+    Base::from_ascii(byte).complement().to_ascii()
 }
 
 pub fn ascii_base_bits(byte: u8) -> AsciiBits
@@ -143,9 +133,8 @@ pub fn valid_ascii_base_bits(byte: u8) -> u8
 pub fn ascii_complement_bits(byte: u8) -> AsciiBits
     ensures { λ r. ⌜ r ≡ bitsWhere complement byte ⌝ }
 {
-    let bits = ascii_code(byte);
-    if bits < INVALID_BASE_BITS {
-        return AsciiBits::Bits(bits ^ 0b11);
+    match ascii_base_bits(byte) {
+        AsciiBits::Bits(bits) => AsciiBits::Bits(bits ^ 0b11),
+        AsciiBits::NoBase => AsciiBits::NoBase,
     }
-    AsciiBits::NoBase
 }

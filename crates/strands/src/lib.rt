@@ -1,16 +1,9 @@
 // A label in its place: turned to its other strand, or made the smaller of the two.
 ghost use mathlib.Core.Path.{_≡_};
-ghost use Rattle.dna.specs.Letters.{complementLetter, reverseComplement};
+ghost use Rattle.dna.specs.Letters.{reverseComplement};
 ghost use Rattle.dna.specs.Order.{before};
 ghost use Rattle.graph.specs.Labels.{lesser};
-use dna::Base;
-
-// The letter of the other strand.
-fn other(byte: u8) -> u8
-    ensures { λ r. ⌜ r ≡ complementLetter byte ⌝ }
-{
-    Base::from_ascii(byte).complement().to_ascii()
-}
+use dna::complement_ascii;
 
 // The reverse complement in the label's own cells: its two ends are exchanged, and on inwards.
 pub fn turn(label: &mut [u8])
@@ -20,8 +13,8 @@ pub fn turn(label: &mut [u8])
     let mut i = 0;
     while i < n - n / 2 {
         let j = n - 1 - i;
-        let x = other(label[i]);
-        let y = other(label[j]);
+        let x = complement_ascii(label[i]);
+        let y = complement_ascii(label[j]);
         label[i] = y;
         label[j] = x;
         i += 1;
@@ -35,7 +28,7 @@ pub fn is_above(label: &[u8]) -> bool
     let n = label.len();
     let mut i = 0;
     while i < n {
-        let x = other(label[n - 1 - i]);
+        let x = complement_ascii(label[n - 1 - i]);
         let y = label[i];
         if x < y {
             return true;

@@ -19,19 +19,19 @@ abbrev μ-loop : tie.MeasureT-loop
 returns : tie.Need-returns Inv-loop μ-loop
 returns c =
     let l = c .before .before .before .before .before .loop in
-    let x = c .before .before .other in
+    let x = c .before .before .complement-ascii in
     sym (above-here _ (l .i) (x .result) (omega arith) (l .inv .1) (x .ensures) (c .if1 .taken))
 
 returns-2 : tie.Need-returns-2 Inv-loop μ-loop
 returns-2 c =
     let l = c .before .before .before .before .before .before .loop in
-    let x = c .before .before .before .other in
+    let x = c .before .before .before .complement-ascii in
     sym (below-here _ (l .i) (x .result) (omega arith) (l .inv .1) (x .ensures) (c .if2 .taken))
 
 loop-again : tie.Need-loop-again Inv-loop μ-loop
 loop-again c =
     let l = c .before .before .before .before .before .before .loop in
-    let x = c .before .before .before .other in
+    let x = c .before .before .before .complement-ascii in
     (refl, alike-here _ (l .i) (x .result) (omega arith) (l .inv .1) (x .ensures) (c .if2 .left) (c .before .if1 .left))
 
 pub is-above-spec : {M : Type 1} → statement M

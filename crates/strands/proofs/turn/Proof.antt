@@ -17,8 +17,8 @@ abbrev μ-loop : tie.MeasureT-loop
 loop-again : tie.Need-loop-again Inv-loop μ-loop
 loop-again c =
     let l = c .before .before .before .before .before .loop in
-    let x = c .before .before .other in
-    (refl, turned-more (l .inv .1) _ _ _ (omega arith) (omega arith) (x .ensures) (c .other2 .ensures))
+    let x = c .before .before .complement-ascii in
+    (refl, turned-more (l .inv .1) _ _ _ (omega arith) (omega arith) (x .ensures) (c .complement-ascii2 .ensures))
 
 pub turn-spec : {M : Type 1} → statement M
 turn-spec =
