@@ -3,10 +3,11 @@ use mathlib.Core.Path.{_≡_, refl, sym, ap, _∙_}
 use mathlib.Core.Bool.{Bool, true, false, cond, not, _&&_, _||_, false≢true}
 use mathlib.Core.List.{List, [], _∷_, _++_, map, map-map}
 use mathlib.Core.Logic.{⊎-elim}
-use Prim.Native.Nat.{ℕ}
+use Prim.Native.Nat.{ℕ, _≤_}
 use native.Mathlib.Omega.{arith}
 use lib.Dec.{ltb, eqb}
 use lib.ListN.{length, drop, length-map}
+use borrow.Author.Tests.{le-leb}
 use Rattle.lemmas.proofs.Numbers.{true-or-false}
 use Rattle.dna.specs.Text.{over, part}
 use Rattle.dna.specs.Order.{before}
@@ -14,11 +15,18 @@ use Rattle.dna.proofs.Order.{before-same}
 use Rattle.graph.specs.Contraction.{Entry, putIn, sorted}
 use Rattle.laws.specs.Demand.{Each, Each.none, Each.more}
 use Rattle.laws.proofs.Indexed.{sorted-each}
-use Rattle.sorting.specs.Index.{Spot, comesFirst, spots, putBy, sortBy, sortedSpots}
+use Rattle.laws.proofs.Apart.{Apart, Apart.alone, Apart.beside}
+use Rattle.sorting.specs.Index.{Spot, comesFirst, spots, putBy, sortBy, sortedSpots, Sorts}
 use Rattle.sorting.proofs.Ordered.{sort-length}
 use Rattle.contraction.specs.Says.{startsOf, lengthsOf, Ordered}
 use Rattle.dna.proofs.Overwriting.{over-over}
-use Rattle.contraction.proofs.Apart.{Apart, Apart.alone, Apart.beside}
+
+-- Where both slices have so many entries, sorting puts them in order.
+pub ordered : {t : Bool} {b s l s′ l′ : List ℕ} {n : ℕ} → n ≤ length s → n ≤ length l → Sorts t b s l n s′ l′ → Ordered b s l n s′ l′
+ordered {s = s} {l = l} {n = n} h k S =
+    let hs = le-leb n (length s) h in
+    let hl = le-leb n (length l) k in
+    record { starts-after = S .starts-after ∙ rw (hs, hl); lengths-after = S .lengths-after ∙ rw (hs, hl) }
 
 abbrev spotOf : Entry → Spot
 spotOf e = record { start = e .start; length = length (e .label) }

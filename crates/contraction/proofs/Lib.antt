@@ -1,10 +1,8 @@
 pub mod Ahead
 pub mod Anchors
-pub mod Apart
 pub mod Appending
 pub mod Copying
 pub mod Digested
-pub mod Distinct
 pub mod Entering
 pub mod Finishing
 pub mod Firsts
@@ -12,7 +10,6 @@ pub mod Indexing
 pub mod Labelling
 pub mod Listed
 pub mod Listing
-pub mod Normalizing
 pub mod Onward
 pub mod Pasting
 pub mod Paving

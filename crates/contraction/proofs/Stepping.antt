@@ -1,24 +1,20 @@
 -- A vertex that is left: by which edge, and the step that comes of it. Assumes nothing.
 use mathlib.Core.Path.{_≡_, sym, _∙_}
-use mathlib.Core.Bool.{true, false}
 use mathlib.Core.List.{List}
 use Prim.Native.Nat.{ℕ, _<_}
 use native.Mathlib.Omega.{arith}
 use borrow.Author.Tests.{eq-eqb, ne-eqb}
-use lib.Dec.{eqb}
-use lib.ListN.{length, getD, set}
-use Rattle.lemmas.proofs.Tests.{never}
+use lib.ListN.{length, getD}
 use Rattle.kmer.specs.Kmer.{forward}
 use Rattle.state.specs.declared.Side.{Side}
 use Rattle.graph.specs.declared.Step.{Step}
-use Rattle.graph.specs.declared.Step.the-variants.{Next, Stop}
+use Rattle.graph.specs.declared.Step.the-variants.{Stop}
 use Rattle.graph.specs.declared.StopReason.the-variants.{NoEdge, SeveralEdges}
-use Rattle.graph.specs.Walks.{edge, visited, seen, leaving, step}
+use Rattle.graph.specs.Walks.{edge, seen, leaving, step}
 use Rattle.laws.proofs.Sides.{leaving-lt}
-use Rattle.laws.proofs.Steps.{came}
-use Rattle.marks.specs.Marks.{endIn, ends, visits}
+use Rattle.marks.specs.Marks.{endIn, ends}
 use Rattle.contraction.specs.Ready.{keysFor, Ready, arriveIn, stepIn}
-use Rattle.contraction.specs.Says.{Advances, extended}
+use Rattle.contraction.specs.Says.{Advances}
 use Rattle.marks.proofs.Marking.{edge-is, marking, visits-marking, ends-marking}
 
 -- Vertex v is left by side s, on which its mark holds e.
@@ -52,14 +48,5 @@ module _ {K : ℕ} {keys ms : List ℕ} (r : Ready K keys ms) (a : ℕ) (start :
 -- Vertex v is marked, and then left.
 module _ {K : ℕ} {keys ms : List ℕ} (a : ℕ) (start : Side) (v : ℕ) (s : Side) {st : Step}
     (stepped : st ≡ stepIn K keys (marking ms v) a start v s) where
-  pub advanced : {r : Step} → st ≡ r → Advances K keys ms a start v s r (marking ms v)
-  advanced e = record { stepped = sym e ∙ stepped; ends-kept = ends-marking ms v; visits-after = visits-marking ms v }
-
-  -- The step never comes to the anchor, which is marked.
-  pub advanced-on : visited (set (visits ms) v 1) a ≡ true → {u b : ℕ} {t : Side} → st ≡ Next u t b → {r : Step} → r ≡ extended a u t b
-      → Advances K keys ms a start v s r (marking ms v)
-  advanced-on marked {u} {b} {t} e {r} x =
-      let c = came K (keysFor (marking ms v) keys) (ends (marking ms v)) a start (visits (marking ms v)) v s (sym stepped ∙ e) in
-      let fresh : visited (set (visits ms) v 1) u ≡ false = rw (visits-marking ms v) at (c .fresh) in
-      let other : eqb u a ≡ false = ne-eqb u a (λ i. never (visited (set (visits ms) v 1) a) marked (rw i at fresh)) in
-      advanced (e ∙ sym (x ∙ rw other))
+  pub advanced : Advances K keys ms a start v s st (marking ms v)
+  advanced = record { stepped = stepped; ends-kept = ends-marking ms v; visits-after = visits-marking ms v }

@@ -1,6 +1,6 @@
 -- A walk under way: what is left of it at the vertex where it stands is the rest of the whole. Assumes nothing.
 use mathlib.Core.Path.{_≡_, refl, sym, ap, _∙_}
-use mathlib.Core.Bool.{true, false}
+use mathlib.Core.Bool.{false}
 use mathlib.Core.List.{List, _∷_}
 use Prim.Native.Nat.{ℕ, _+_, _≤_, _<_}
 use native.Mathlib.Omega.{arith}
@@ -11,14 +11,14 @@ use Rattle.state.specs.declared.Side.{Side}
 use Rattle.graph.specs.declared.Step.{Step}
 use Rattle.graph.specs.declared.Step.the-variants.{Next}
 use Rattle.graph.specs.Table.{keysOf}
-use Rattle.graph.specs.Walks.{Ends, visited, seen, step}
+use Rattle.graph.specs.Walks.{Ends, seen, step}
 use Rattle.laws.specs.Trails.{isNext}
 use Rattle.laws.proofs.Steps.{Came, came, came-lt, came-forward, came-base}
 use Rattle.laws.proofs.Fuel.{unseen-le, Went, walk-went}
 use Rattle.marks.specs.Marks.{ends, visits}
 use Rattle.contraction.specs.Ready.{keysFor, walkIn, Ready}
 use Rattle.contraction.specs.Says.{Advances, Walks}
-use Rattle.marks.proofs.Marking.{visits-length, ends-length, visited-still, visited-now}
+use Rattle.marks.proofs.Marking.{visits-length, ends-length}
 use Rattle.contraction.proofs.Still.{keys-marks}
 use Rattle.contraction.proofs.Onward.{rest, went-on, went-ends}
 use Rattle.contraction.proofs.Visiting.{paced}
@@ -34,7 +34,6 @@ pub record Walking (K : ℕ) (keys ms : List ℕ) (a : ℕ) (start : Side) (base
   pub ready : Ready K keys ms
   pub kept : ends now ≡ ends ms
   pub below : v < length ms
-  pub anchored : visited (set (visits now) v 1) a ≡ true
   pub within : bases ≤ length (walkIn K keys ms a start .bases)
   pub left : Went K (keysFor ms keys) (ends ms) a start (set (visits now) v 1) v s (rest bases (walkIn K keys ms a start))
 
@@ -44,7 +43,6 @@ walking-start {K} {keys} {ms} r a start h = record {
   ready = r;
   kept = refl;
   below = h;
-  anchored = visited-now ms a h;
   within = omega arith;
   left = walk-went K (keysFor ms keys) (ends ms) a start (visits ms) (visits-length ms ∙ sym (keys-marks r));
 }
@@ -75,7 +73,6 @@ module _ {K : ℕ} {keys ms : List ℕ} {a : ℕ} {start : Side} {bases v : ℕ}
       ready = g .ready;
       kept = advance .ends-kept ∙ g .kept;
       below = omega (arith, came-lt K (keysFor ms keys) (ends ms) met, keys-marks (g .ready));
-      anchored = rw (advance .visits-after) (visited-still (set (visits now) v 1) u a (g .anchored));
       within = omega (arith, walking-less);
       left = rw (advance .visits-after, sym (drop-drop 1 bases (walkIn K keys ms a start .bases))) (on .1);
     }

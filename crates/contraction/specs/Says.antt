@@ -1,12 +1,11 @@
 -- What contraction answers in document 01's numbers, and what its parts say. Assumes nothing.
 use Prim.Native.Nat.{ℕ, _+_, _/_, _^_, _≤_, _<_}
 use mathlib.Core.Path.{_≡_}
-use mathlib.Core.Bool.{Bool, true, false, cond}
+use mathlib.Core.Bool.{Bool, true}
 use mathlib.Core.List.{List, [], _∷_, map}
-use lib.Dec.{eqb}
 use lib.Seq.{paste}
-use lib.ListN.{length, getD, set, drop, replicate}
-use Rattle.dna.specs.Text.{over, part}
+use lib.ListN.{length, set, drop, replicate}
+use Rattle.dna.specs.Text.{over}
 use Rattle.dna.specs.Answer.{Answer, gives, refuses}
 use Rattle.dna.specs.Letters.{letterOf}
 use Rattle.kmer.specs.Kmer.{okK, rc}
@@ -15,10 +14,8 @@ use Rattle.sorting.specs.Index.{Spot, sortedSpots}
 use Rattle.state.specs.Counted.{fourBits}
 use Rattle.state.specs.declared.Side.{Side}
 use Rattle.graph.specs.declared.Step.{Step}
-use Rattle.graph.specs.declared.Step.the-variants.{Next, Stop}
-use Rattle.graph.specs.declared.StopReason.the-variants.{VisitedAhead}
 use Rattle.graph.specs.Table.{tableOf, fitFrom}
-use Rattle.graph.specs.Labels.{Run, lesser, run}
+use Rattle.graph.specs.Labels.{Run, run}
 use Rattle.graph.specs.Contraction.{Entry, entries, endToEnd, endsIn, Totals, Contracted, finish}
 use Rattle.marks.specs.Marks.{ends, visits}
 use Rattle.contraction.specs.Ready.{keysFor, stepIn, walkIn, extractIn, labelIn, runIn}
@@ -52,10 +49,6 @@ pub record Both (K x : ℕ) (s : Strands) : Type 0 where
   pub below : x < 4 ^ K
   pub here : valueOf (s .here) ≡ x
   pub other : valueOf (s .other) ≡ rc K x
-
--- A step that comes to the anchor does not extend the walk.
-abbrev pub extended : ℕ → ℕ → Side → ℕ → Step
-extended a v s b = cond (eqb v a) (Stop (VisitedAhead false)) (Next v s b)
 
 -- What the parts leave in the marks, and say; over keys and the marks at entry.
 module _ (K : ℕ) (keys ms : List ℕ) where
@@ -131,18 +124,6 @@ pub record Writes (K : ℕ) (keys ms : List ℕ) (a labels at : ℕ) (buffer buf
   pub number : labels ≡ length (runIn K keys ms a .labels)
   pub total : at ≡ length (endToEnd (runIn K keys ms a .labels))
   pub lists : Lists (runIn K keys ms a) (entries 0 (runIn K keys ms a .labels)) buffer buffer′ starts starts′ lengths lengths′
-
--- The label that entry i of an index names in a buffer.
-abbrev pub labelAt : List ℕ → List ℕ → List ℕ → ℕ → List ℕ
-labelAt buffer starts lengths i = part buffer (getD starts i 0) (getD lengths i 0)
-
--- An index names n labels of a buffer: each lies within, none is above its reverse complement, and no two are the same.
-pub record Normal (buffer starts lengths : List ℕ) (n : ℕ) : Type 0 where
-  pub starts-long : n ≤ length starts
-  pub lengths-long : n ≤ length lengths
-  pub within : (i : ℕ) → i < n → getD starts i 0 + getD lengths i 0 ≤ length buffer
-  pub canonical : (i : ℕ) → i < n → lesser (labelAt buffer starts lengths i) ≡ labelAt buffer starts lengths i
-  pub distinct : (i j : ℕ) → i < n → j < n → labelAt buffer starts lengths i ≡ labelAt buffer starts lengths j → i ≡ j
 
 -- The first n entries of an index put in order of the labels that they name in a buffer; those behind them stay.
 pub record Ordered (buffer starts lengths : List ℕ) (n : ℕ) (starts′ lengths′ : List ℕ) : Type 0 where

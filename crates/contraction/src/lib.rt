@@ -2,7 +2,6 @@
 use graph::Step;
 use kmer::Kmer;
 
-mod normal;
 mod step;
 mod survey;
 mod unitigs;

@@ -1,15 +1,14 @@
 // One step of a walk.
 ghost use mathlib.Core.Path.{_≡_};
 ghost use mathlib.Core.Bool.{true};
-ghost use Prim.Native.Nat.{_≤_, _<_};
-ghost use lib.ListN.{length, set};
+ghost use Prim.Native.Nat.{_<_};
+ghost use lib.ListN.{length};
 ghost use Rattle.dna.specs.Calls.{codeIn};
 ghost use Rattle.kmer.specs.Kmer.{okK, forward};
 ghost use Rattle.kmer.specs.Says.{valueOf};
-ghost use Rattle.graph.specs.Walks.{leaving, seen, visited};
-ghost use Rattle.marks.specs.Marks.{visits};
+ghost use Rattle.graph.specs.Walks.{leaving, seen};
 ghost use Rattle.contraction.specs.Ready.{Ready, keysFor, lookIn, arriveIn, stepIn};
-ghost use Rattle.contraction.specs.Says.{Both, Advances, extended};
+ghost use Rattle.contraction.specs.Says.{Both, Advances};
 use super::Strands;
 use dna::Base;
 use graph::Step;
@@ -18,18 +17,16 @@ use kmer::Kmer;
 use state::Side;
 use table::Found;
 
-// The base that has this code.
+// The base that has this code. The remainder tells the compiler that there is no fifth.
 pub(crate) fn base_of(code: u8) -> Base
-    requires { ⌜ code ≤ 5 ⌝ }
+    requires { ⌜ code < 4 ⌝ }
     ensures { λ r. ⌜ codeIn r ≡ code ⌝ }
 {
-    match code {
+    match code % 4 {
         0 => Base::A,
         1 => Base::C,
         2 => Base::G,
-        3 => Base::T,
-        4 => Base::N,
-        _ => Base::E,
+        _ => Base::T,
     }
 }
 
@@ -165,16 +162,6 @@ fn leave(
     arrive(k, keys, directory, marks, anchor, start, next, base.bits())
 }
 
-// The Rust's test that a new vertex is not the anchor. The anchor is marked from the first step on, so it never is.
-fn extend(anchor: usize, vertex: usize, side: Side, base: u8) -> Step
-    ensures { λ r. ⌜ r ≡ extended anchor vertex side base ⌝ }
-{
-    if vertex == anchor {
-        return Step::Stop(StopReason::VisitedAhead(false));
-    }
-    Step::Next { vertex, side, base }
-}
-
 // Vertex v is marked and left by a side.
 pub(crate) fn advance(
     k: usize,
@@ -187,13 +174,9 @@ pub(crate) fn advance(
     side: Side,
     strands: Strands,
 ) -> Step
-    requires { ⌜ Ready k (now keys) (now marks) × (v < length (now marks)) × (visited (set (visits (now marks)) v 1) anchor ≡ true) × Both k (seen k (keysFor (now marks) (now keys)) v side) strands ⌝ }
+    requires { ⌜ Ready k (now keys) (now marks) × (v < length (now marks)) × Both k (seen k (keysFor (now marks) (now keys)) v side) strands ⌝ }
     ensures { λ r. ⌜ Advances k (now (keys .entry)) (now (marks .entry)) anchor start v side r (now (marks .exit)) ⌝ }
 {
     marks[v] = marks[v] % 64 + 64;
-    match leave(k, keys, directory, marks, anchor, start, v, side, strands) {
-        Step::Next { vertex, side, base } => extend(anchor, vertex, side, base),
-        Step::Stop(why) => Step::Stop(why),
-        Step::Missing => Step::Missing,
-    }
+    leave(k, keys, directory, marks, anchor, start, v, side, strands)
 }

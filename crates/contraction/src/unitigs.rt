@@ -8,10 +8,9 @@ ghost use Rattle.state.specs.Counted.{fourBits};
 ghost use Rattle.graph.specs.Contraction.{contract as contracted, entries, sorted};
 ghost use Rattle.marks.specs.Marks.{visits};
 ghost use Rattle.contraction.specs.Ready.{Ready, runIn};
-ghost use Rattle.contraction.specs.Says.{Contracts, FitTable, Roomy, Lists, finishIn};
+ghost use Rattle.contraction.specs.Says.{Contracts, FitTable, Roomy, Lists, Ordered, finishIn};
 ghost use Rattle.contraction.specs.Trail.{Trails};
 use super::ContractAnswer;
-use super::normal;
 use super::survey;
 use super::write;
 use table::FitAnswer;
@@ -29,6 +28,14 @@ fn lacks_room(buffer: usize, starts: usize, lengths: usize, bases: usize, labels
     lengths < labels
 }
 
+// The index put in byte order of the labels that it names. They are canonical and no two are the same, so that there is no more to do.
+fn normalize_unitigs(labels: &[u8], starts: &mut [u32], lengths: &mut [u32], count: usize)
+    requires { ⌜ (count ≤ length (now starts)) × (count ≤ length (now lengths)) ⌝ }
+    ensures { λ _. ⌜ Ordered (now (labels .entry)) (now (starts .entry)) (now (lengths .entry)) count (now (starts .exit)) (now (lengths .exit)) ⌝ }
+{
+    let _sorted = sorting::sort_index(labels, starts, lengths, count);
+}
+
 // The labels and their index in byte order, for which there is room; how many there are. The marks are 0 and 1 afterwards.
 fn write_list(
     k: usize,
@@ -44,7 +51,8 @@ fn write_list(
 {
     let count = write::write_labels(k, keys, marks, trail, labels, starts, lengths);
     marks::settle(marks);
-    normal::normalize_unitigs(labels, starts, lengths, count)
+    normalize_unitigs(labels, starts, lengths, count);
+    count
 }
 
 // A fit table of as many vertices as there are marks. All walks are followed before the first byte is written: the trail has two

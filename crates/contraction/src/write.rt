@@ -28,7 +28,7 @@ fn put_letters(k: usize, x: Kmer, buffer: &mut [u8], at: usize)
 }
 
 // A part of the buffer made the smaller of its strands.
-pub(crate) fn canonicalize_part(buffer: &mut [u8], at: usize, n: usize)
+fn canonicalize_part(buffer: &mut [u8], at: usize, n: usize)
     requires { ⌜ at + n ≤ length (now buffer) ⌝ }
     ensures { λ _. ⌜ now (buffer .exit) ≡ paste (now (buffer .entry)) at (lesser (part (now (buffer .entry)) at n)) n ⌝ }
 {

@@ -9,3 +9,4 @@ pub mod Adding
 pub mod Accepted
 pub mod Entries
 pub mod Several
+pub mod Labels

@@ -32,7 +32,7 @@ module _ (κ : Kind) (K cutoff n : ℕ) (keys counts : List ℕ) (f : fit K n ke
   abbrev es : List Ends
   es = endsIn κ cutoff (tableOf n keys counts)
 
-  keys-fit : fitFrom K 0 ks ≡ true
+  pub keys-fit : fitFrom K 0 ks ≡ true
   keys-fit = both (leb n (capacity keys counts)) (fitFrom K 0 ks) f .1
 
   size : length ks ≡ n

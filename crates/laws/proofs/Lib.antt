@@ -23,10 +23,12 @@ pub mod Labelled
 pub mod Occurrences
 pub mod Room
 pub mod Indexed
+pub mod Apart
 pub mod Outward
 pub mod Always
 pub mod Fits
 pub mod Listed
+pub mod Idle
 pub mod Leads
 pub mod Joining
 pub mod Pieces

@@ -1,9 +1,9 @@
 -- The marks after a walk: one more at each place that it came to, none of which was marked. Assumes nothing.
 use mathlib.Core.Path.{_≡_, refl, sym, ap, _∙_}
-use mathlib.Core.Bool.{false, cond}
+use mathlib.Core.Bool.{true, false, cond}
 use mathlib.Core.Logic.{⊎-elim}
-use mathlib.Core.List.{List}
-use Prim.Native.Nat.{ℕ, _+_, _≤_, _<_}
+use mathlib.Core.List.{List, [], _∷_}
+use Prim.Native.Nat.{ℕ, zero, suc, _+_, _≤_, _<_}
 use native.Mathlib.Omega.{arith}
 use lib.Dec.{eqb}
 use lib.ListN.{length, getD, set, length-set}
@@ -49,6 +49,18 @@ pub set-again : (marks : List ℕ) (u i : ℕ) → u < length marks → getD mar
 set-again marks u i l o =
     ⊎-elim (λ e. let q = eqb-true u i e in omega (arith, set-same marks u i l q, ap (λ (j : ℕ). getD marks j 0) q))
     (λ e. set-other marks u i (eqb-false u i e)) (true-or-false (eqb u i))
+
+-- A vertex that is marked is visited,
+pub visited-now : (marks : List ℕ) (a : ℕ) → a < length marks → visited (set marks a 1) a ≡ true
+visited-now marks a h = rw (set-same marks a a h refl)
+
+-- and stays so.
+pub visited-still : (marks : List ℕ) (v a : ℕ) → visited marks a ≡ true → visited (set marks v 1) a ≡ true
+visited-still [] v a h = h
+visited-still (x ∷ marks) zero zero h = refl
+visited-still (x ∷ marks) zero (suc a) h = h
+visited-still (x ∷ marks) (suc v) zero h = h
+visited-still (x ∷ marks) (suc v) (suc a) h = visited-still marks v a h
 
 -- The marks have grown by what came between.
 pub record Marked (marks after : List ℕ) (more : ℕ → ℕ) : Type 0 where

@@ -1,12 +1,11 @@
 -- The ends and the visits that marks hold, and what marking a vertex does to them. Assumes nothing.
 use mathlib.Core.Path.{_≡_, refl, sym, ap, _∙_}
-use mathlib.Core.Bool.{true, false}
+use mathlib.Core.Bool.{false}
 use mathlib.Core.List.{List, [], _∷_, map}
 use Prim.Native.Nat.{ℕ, zero, suc, _+_, _/_, _%_, _≤_, _<_}
 use native.Mathlib.Omega.{arith}
 use lib.Dec.{eqb}
 use lib.ListN.{length, getD, set, length-map}
-use lib.Seq.{getD-set-same}
 use Rattle.lemmas.proofs.Lists.{getD-map}
 use Rattle.state.specs.declared.Side.{Side}
 use Rattle.state.specs.declared.Side.the-variants.{Front, Back}
@@ -71,14 +70,3 @@ ends-marking (m ∷ ms) zero =
     let b : endIn (marked m) Back ≡ endIn m Back = rw q (omega arith) in
     rw (f, b)
 ends-marking (m ∷ ms) (suc v) = ap (λ (es : List Ends). endsMarked m ∷ es) (ends-marking ms v)
-
--- What is visited stays so.
-pub visited-still : (marks : List ℕ) (v a : ℕ) → visited marks a ≡ true → visited (set marks v 1) a ≡ true
-visited-still [] v a h = h
-visited-still (x ∷ marks) zero zero h = refl
-visited-still (x ∷ marks) zero (suc a) h = h
-visited-still (x ∷ marks) (suc v) zero h = h
-visited-still (x ∷ marks) (suc v) (suc a) h = visited-still marks v a h
-
-pub visited-now : (ms : List ℕ) (a : ℕ) → a < length ms → visited (set (visits ms) a 1) a ≡ true
-visited-now ms a h = rw (getD-set-same (visits ms) a 1 0 (omega (arith, visits-length ms)))

@@ -11,7 +11,6 @@ use Rattle.dna.specs.Letters.{reverseComplement}
 use Rattle.dna.specs.Order.{before}
 use Rattle.dna.proofs.Order.{Alike, alike-more, before-at, after-at, before-end}
 use Rattle.dna.proofs.Reversal.{length-reverseComplement, reverseComplement-at}
-use Rattle.graph.specs.Labels.{lesser}
 use Rattle.strands.proofs.Turning.{opposite}
 
 -- The strands are alike up to i; x is the other one's byte there.
@@ -32,11 +31,3 @@ module _ (s : List ℕ) (i x : ℕ) (h : i < length s) (f : Alike (reverseComple
 pub alike-whole : (s : List ℕ) (i : ℕ) → length s ≤ i → Alike (reverseComplement s) s i → before (reverseComplement s) s ≡ false
 alike-whole s i h f =
     before-end (reverseComplement s) s i f (inr h) ∙ le-ltb (length (reverseComplement s)) (length s) (omega (arith, length-reverseComplement s))
-
-pub lesser-turned : (s : List ℕ) → before (reverseComplement s) s ≡ true → reverseComplement s ≡ lesser s
-unfolding lesser
-lesser-turned s h = rw h
-
-pub lesser-kept : (s : List ℕ) → before (reverseComplement s) s ≡ false → s ≡ lesser s
-unfolding lesser
-lesser-kept s h = rw h

@@ -1,7 +1,7 @@
 -- Turned where the other strand is the smaller, and kept elsewhere. Assumes nothing.
 use mathlib.Core.Path.{sym, _∙_}
 use borrow.Author.Needs.{needs}
-use Rattle.strands.proofs.Smaller.{lesser-turned, lesser-kept}
+use Rattle.graph.proofs.Labels.{lesser-turned, lesser-kept}
 use Rattle.strands.proofs.canonical_label.Statement.{statement}
 use Rattle.strands.proofs.canonical_label.Tie as tie
 

@@ -42,7 +42,6 @@ advance-requires c κs =
     let s = c .before .before .before .before .before .before .before .before in (
       ready-still (g .ready) (g .kept),
       omega (arith, g .below, ends-length _ _ (g .kept)),
-      g .anchored,
       both-still (s .args .keys .now) (s .args .marks .now) _ (l .v) (l .s) (g .kept) (l .inv .2),
     )
 
