@@ -28,10 +28,11 @@ fn lacks_room(buffer: usize, starts: usize, lengths: usize, bases: usize, labels
     lengths < labels
 }
 
-// The index put in byte order of the labels that it names. They are canonical and no two are the same, so that there is no more to do.
+// The index put in byte order of the labels that it names. They are canonical and no two are the same, so there is no more to do.
 fn normalize_unitigs(labels: &[u8], starts: &mut [u32], lengths: &mut [u32], count: usize)
     requires { ⌜ (count ≤ length (now starts)) × (count ≤ length (now lengths)) ⌝ }
-    ensures { λ _. ⌜ Ordered (now (labels .entry)) (now (starts .entry)) (now (lengths .entry)) count (now (starts .exit)) (now (lengths .exit)) ⌝ }
+    ensures { λ _. ⌜ Ordered (now (labels .entry)) (now (starts .entry)) (now (lengths .entry)) count
+        (now (starts .exit)) (now (lengths .exit)) ⌝ }
 {
     let _sorted = sorting::sort_index(labels, starts, lengths, count);
 }
