@@ -116,7 +116,7 @@ fn grown(c: &Case) -> (Table, f64) {
     let begin = Instant::now();
     for label in &c.labels {
         let r = unsafe {
-            lash_add_label(c.k, n, keys.as_mut_ptr(), keys.len(), counts.as_mut_ptr(), counts.len(), label.as_ptr(), label.len(), figures.as_mut_ptr(), 2)
+            lash_add_label(0, c.k, n, keys.as_mut_ptr(), keys.len(), counts.as_mut_ptr(), counts.len(), label.as_ptr(), label.len(), figures.as_mut_ptr(), 2)
         };
         assert_eq!(r, 0);
         n = figures[1] as usize;
@@ -134,7 +134,7 @@ fn grown_at_once(c: &Case, t: &Table) -> f64 {
     let begin = Instant::now();
     let r = unsafe {
         lash_add_labels(
-            c.k, 0, keys.as_mut_ptr(), keys.len(), counts.as_mut_ptr(), counts.len(), text.as_ptr(), text.len(), starts.as_ptr(), starts.len(),
+            0, c.k, 0, keys.as_mut_ptr(), keys.len(), counts.as_mut_ptr(), counts.len(), text.as_ptr(), text.len(), starts.as_ptr(), starts.len(),
             lengths.as_ptr(), lengths.len(), lengths.len(), totals.as_mut_ptr(), 2, [0u64; 2].as_mut_ptr(), 2,
         )
     };

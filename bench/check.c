@@ -35,7 +35,7 @@ int main(void) {
     for (size_t i = 0; i < LEN(figures); i++) figures[i] = UNTOUCHED;
 
     /* P1: 2 edges; ACC 00100000, CCC 00100001; output ACCC. */
-    same("adding ACCCC", lash_add_label(3, 0, keys, LEN(keys), counts, LEN(counts), acccc, LEN(acccc), figures, LEN(figures)), 0);
+    same("adding ACCCC", lash_add_label(0, 3, 0, keys, LEN(keys), counts, LEN(counts), acccc, LEN(acccc), figures, LEN(figures)), 0);
     same("its edges", figures[0], 2);
     same("the number stored", figures[1], 2);
     same("the cell past the figures", figures[2], UNTOUCHED);
@@ -62,9 +62,9 @@ int main(void) {
     /* P11 and P8: refusals, which leave the table as it is. */
     memcpy(keys_before, keys, sizeof keys);
     memcpy(counts_before, counts, sizeof counts);
-    same("adding at K = 64", lash_add_label(64, n, keys, LEN(keys), counts, LEN(counts), acccc, LEN(acccc), figures, LEN(figures)), 1);
+    same("adding at K = 64", lash_add_label(0, 64, n, keys, LEN(keys), counts, LEN(counts), acccc, LEN(acccc), figures, LEN(figures)), 1);
     same("its K", figures[0], 64);
-    same("adding ACCN", lash_add_label(3, n, keys, LEN(keys), counts, LEN(counts), accn, LEN(accn), figures, LEN(figures)), 3);
+    same("adding ACCN", lash_add_label(0, 3, n, keys, LEN(keys), counts, LEN(counts), accn, LEN(accn), figures, LEN(figures)), 3);
     same("its place", figures[0], 3);
     same("its byte", figures[1], 78);
     same_bytes("the keys after refusals", keys, keys_before, sizeof keys);
@@ -78,7 +78,7 @@ int main(void) {
     memset(many_keys, 0, sizeof many_keys);
     memset(many_counts, 0, sizeof many_counts);
     same("adding three labels",
-         lash_add_labels(3, 0, many_keys, LEN(many_keys), many_counts, LEN(many_counts), text, LEN(text), from, LEN(from), size, LEN(size),
+         lash_add_labels(0, 3, 0, many_keys, LEN(many_keys), many_counts, LEN(many_counts), text, LEN(text), from, LEN(from), size, LEN(size),
                          3, totals, LEN(totals), figures, LEN(figures)), 3);
     same("the labels added", totals[0], 1);
     same("the number stored after them", totals[1], 2);
@@ -88,12 +88,12 @@ int main(void) {
     same_bytes("the keys after one label", many_keys, keys, sizeof keys);
     same_bytes("the counts after one label", many_counts, counts, sizeof counts);
     same("adding past the text",
-         lash_add_labels(3, 2, many_keys, LEN(many_keys), many_counts, LEN(many_counts), text, LEN(text) - 1, from, LEN(from), size, LEN(size),
+         lash_add_labels(0, 3, 2, many_keys, LEN(many_keys), many_counts, LEN(many_counts), text, LEN(text) - 1, from, LEN(from), size, LEN(size),
                          3, totals, LEN(totals), figures, LEN(figures)), 12);
     same("the labels added then", totals[0], 0);
     same("the number stored then", totals[1], 2);
     same("adding past the index",
-         lash_add_labels(3, 2, many_keys, LEN(many_keys), many_counts, LEN(many_counts), text, LEN(text), from, LEN(from), size, LEN(size),
+         lash_add_labels(0, 3, 2, many_keys, LEN(many_keys), many_counts, LEN(many_counts), text, LEN(text), from, LEN(from), size, LEN(size),
                          4, totals, LEN(totals), figures, LEN(figures)), 12);
     same_bytes("the keys after 12", many_keys, keys, sizeof keys);
     same_bytes("the counts after 12", many_counts, counts, sizeof counts);
@@ -103,11 +103,11 @@ int main(void) {
     const uint8_t aaa[] = {'A', 'A', 'A'};
     uint64_t three_keys[6];
     uint32_t three_counts[3];
-    same("adding AAA where there is no room", lash_add_label(3, n, keys, 2 * n, counts, n, aaa, LEN(aaa), figures, LEN(figures)), 6);
+    same("adding AAA where there is no room", lash_add_label(0, 3, n, keys, 2 * n, counts, n, aaa, LEN(aaa), figures, LEN(figures)), 6);
     memcpy(three_keys, keys, 2 * n * sizeof *keys);
     memcpy(three_counts, counts, n * sizeof *counts);
     same("adding AAA where there is",
-         lash_add_label(3, n, three_keys, LEN(three_keys), three_counts, LEN(three_counts), aaa, LEN(aaa), figures, LEN(figures)), 0);
+         lash_add_label(0, 3, n, three_keys, LEN(three_keys), three_counts, LEN(three_counts), aaa, LEN(aaa), figures, LEN(figures)), 0);
     same("the number stored then", figures[1], 3);
     same_bytes("the keys then", three_keys, (const uint64_t[]){0, 0, 5, 0, 21, 0}, sizeof three_keys);
     same_bytes("the counts then", three_counts, (const uint32_t[]){0, 0x00100000, 0x00100001}, sizeof three_counts);
@@ -117,6 +117,30 @@ int main(void) {
     same("the number of labels then", figures[0], 1);
     same_bytes("their bases then", labels, "ACCC", 4);
     same_bytes("the marks then", marks, (const uint8_t[]){0, 1, 1}, 3);
+
+    /* The mode for reads from both strands: ACCCC, and its reverse complement in small letters by the other call, leave the same table, and
+     * both together give ACC and CCC. Every number but 0 names it. */
+    const uint8_t ggggt[] = {'g', 'g', 'g', 'g', 'u'};
+    const uint32_t one_start[] = {0}, one_length[] = {5};
+    const uint32_t loop_counts[] = {0x00100000, 0x00100011}, both_counts[] = {0x00200000, 0x00200022};
+    uint64_t loop_keys[4], other_keys[4];
+    uint32_t loops[2], others[2], list_starts[2], list_lengths[2];
+    uint8_t list[6], list_marks[2];
+    same("adding ACCCC in mode 1", lash_add_label(1, 3, 0, loop_keys, 4, loops, 2, acccc, LEN(acccc), figures, LEN(figures)), 0);
+    same("its edges", figures[0], 2);
+    same_bytes("its keys", loop_keys, keys, sizeof loop_keys);
+    same_bytes("its counts", loops, loop_counts, sizeof loops);
+    same("adding ggggu in mode 7",
+         lash_add_labels(7, 3, 0, other_keys, 4, others, 2, ggggt, LEN(ggggt), one_start, 1, one_length, 1, 1, totals, LEN(totals), figures, LEN(figures)), 0);
+    same_bytes("its keys", other_keys, loop_keys, sizeof other_keys);
+    same_bytes("its counts", others, loops, sizeof others);
+    same("adding ggggu to ACCCC", lash_add_label(UINT32_MAX, 3, 2, loop_keys, 4, loops, 2, ggggt, LEN(ggggt), figures, LEN(figures)), 0);
+    same_bytes("the counts of both", loops, both_counts, sizeof loops);
+    same("contracting them",
+         lash_contract(3, 1, 2, loop_keys, 4, loops, 2, list, 6, list_starts, 2, list_lengths, 2, list_marks, 2, figures, LEN(figures)), 0);
+    same("their labels", figures[0], 2);
+    same_bytes("their bases", list, "ACCCCC", 6);
+    same_bytes("their lengths", list_lengths, (const uint32_t[]){3, 3}, sizeof list_lengths);
 
     /* Other refusals, and figures without room. */
     same("contracting at K = 64",
@@ -135,7 +159,7 @@ int main(void) {
     same("FASTA past the index",
          lash_write_fasta(labels, LEN(labels), starts, LEN(starts), lengths, LEN(lengths), 17, out, LEN(out), figures, LEN(figures)), 12);
     figures[0] = figures[1] = UNTOUCHED;
-    same("adding ACCN", lash_add_label(3, n, keys, LEN(keys), counts, LEN(counts), accn, LEN(accn), figures, 1), 3);
+    same("adding ACCN", lash_add_label(0, 3, n, keys, LEN(keys), counts, LEN(counts), accn, LEN(accn), figures, 1), 3);
     same("its place in one cell", figures[0], 3);
     same("the cell past it", figures[1], UNTOUCHED);
 

@@ -28,6 +28,10 @@ extern "C" {
 #endif
 
 /* Adds a label to a table of n vertices. Bases are the letters ACGTU in either case.
+ * Mode 0 is the Rust's: where a part of K bases has the same canonical k-mer as the one before it, the step between them counts on one side
+ * only. Any other number: that is so only where it is the reverse complement of the one before and differs from it. Then, for odd K, a label and
+ * its reverse complement leave the same table: this is the mode for reads from both strands. A table is to be grown in one mode from empty on; it
+ * does not tell in which.
  * Figures: the edges, which is length minus K (0 for a label shorter than K, which changes nothing), and the number stored
  * afterwards, the n of the next call.
  * Refusals, in the order in which they are tried:
@@ -37,14 +41,14 @@ extern "C" {
  *   3  a byte of a label of K bytes or more is no base; figures: the first such place, from 0, and its byte
  *   6  stored plus new distinct k-mers exceed the capacity
  */
-uint32_t lash_add_label(size_t k, size_t n,
+uint32_t lash_add_label(uint32_t mode, size_t k, size_t n,
                         uint64_t *keys, size_t keys_len,
                         uint32_t *counts, size_t counts_len,
                         const uint8_t *label, size_t label_len,
                         uint64_t *figures, size_t figures_len);
 
 /* Adds many labels to a table of n vertices: label i is the bytes of text from starts[i] on, lengths[i] of them, and the first count
- * entries are added in order, as by lash_add_label, until one is refused. The table is tested for fitness for the first label alone,
+ * entries are added in order, as by lash_add_label in that mode, until one is refused. The table is tested for fitness for the first label alone,
  * so that many short labels cost less than a call for each.
  * Totals, as many as have room: the labels added, and the number stored after them, the n of the next call; they are written
  * whatever is returned. Where a label is refused, it is entry totals[0].
@@ -53,7 +57,7 @@ uint32_t lash_add_label(size_t k, size_t n,
  * Refusal before the first label, and before all others:
  *   12  count past starts or lengths, or an entry past the text
  */
-uint32_t lash_add_labels(size_t k, size_t n,
+uint32_t lash_add_labels(uint32_t mode, size_t k, size_t n,
                          uint64_t *keys, size_t keys_len,
                          uint32_t *counts, size_t counts_len,
                          const uint8_t *text, size_t text_len,

@@ -1,5 +1,6 @@
 #!/usr/bin/env python3
-"""adding_test.py: writes crates/adding_test/stdout, what adding answers by document 01's rules, in Python's own numbers and sets.
+"""adding_test.py: writes crates/adding_test/stdout, what adding answers in each mode by the rules of document 01 and of Q-3, in Python's own numbers
+and sets.
 
 A vertex is a number in a dict from k-mers to lists of eight counts; a table is put into words only to be shown."""
 import os
@@ -29,6 +30,14 @@ def is_canonical(x, k):
     return here <= there
 
 
+def skips(mode, before, window):
+    """The window's predecessor is left uncounted. A window is its number and its reverse complement's."""
+    here, there = window
+    if mode == "reversed":
+        return before == (there, here) and there != here
+    return min(before) == min(window)
+
+
 class Lent:
     """Two lent slices, and the number stored."""
 
@@ -47,11 +56,11 @@ class Lent:
         keys = self.keys()
         return all(x < 4**k and is_canonical(x, k) for x in keys) and all(x < y for x, y in zip(keys, keys[1:]))
 
-    def add(self, k, label):
+    def add(self, mode, k, label):
         text = label.decode() if len(label) < 100 else str(len(label))
-        lines.append(f"K {k} {text}: {self.answer(k, label)}")
+        lines.append(f"K {k} {text}: {self.answer(mode, k, label)}")
 
-    def answer(self, k, label):
+    def answer(self, mode, k, label):
         if not 1 <= k <= 63:
             return f"R1 {k}"
         if not self.is_fit(k):
@@ -70,7 +79,7 @@ class Lent:
             return "R6"
         for i, (here, there) in enumerate(windows):
             counters = graph.setdefault(min(here, there), [0] * 8)
-            before = codes[i - 1] if i > 0 and min(windows[i - 1]) != min(here, there) else None
+            before = codes[i - 1] if i > 0 and not skips(mode, windows[i - 1], (here, there)) else None
             after = codes[i + k] if i + k < len(codes) else None
             if here > there:
                 before, after = (None if b is None else 3 - b for b in (after, before))
@@ -88,69 +97,80 @@ class Lent:
         lines.append("counts" + "".join(f" {cell:08x}" for cell in self.cells))
 
 
-def three(k, *labels):
+def three(mode, k, *labels):
     table = Lent([FREE_KEY] * 24, [FREE_COUNT] * 12)
     for label in labels:
-        table.add(k, label)
+        table.add(mode, k, label)
     table.show()
 
 
-def few(k, *labels):
+def few(mode, k, *labels):
     table = Lent([FREE_KEY] * 5, [FREE_COUNT] * 3)
     for label in labels:
-        table.add(k, label)
+        table.add(mode, k, label)
     table.show()
 
 
-def often(k, label, times):
+def often(mode, k, label, times):
     table = Lent([FREE_KEY] * 8, [FREE_COUNT] * 4)
     for _ in range(times):
-        table.add(k, label)
+        table.add(mode, k, label)
     table.show()
 
 
-def by_hand(k, n, first, second, label):
+def by_hand(mode, k, n, first, second, label):
     table = Lent([first, 0, second, 0, FREE_KEY, FREE_KEY], [1, 2, FREE_COUNT], n)
-    table.add(k, label)
+    table.add(mode, k, label)
     table.show()
 
 
-three(3, b"ACCCC", b"", b"")
-three(3, b"GGGGT", b"", b"")
-often(3, b"ACGG", 16)
-three(3, b"ACCN", b"", b"")
-three(3, b"AN", b"", b"")
-three(1, b"AT", b"", b"")
-three(0, b"ACGT", b"", b"N")
-three(64, b"ACGT", b"", b"N")
-three(1, b"ACGTTGCA", b"NA", b"acgu")
-three(2, b"CAT", b"ATG", b"AAAA")
-three(2, b"ATATAT", b"CGCG", b"GC")
-three(3, b"ATCATC", b"GATGAT", b"ATATATA")
-three(3, b"CAAAA", b"TTTTG", b"UuTtacGg")
-three(3, b"ACGTACGTAAGGCC", b"TTTAGATTACA", b"ACG")
-three(4, b"ACGTACGT", b"AACCGGTTR", b"CCCCC")
-three(31, b"ACGTTGCAACGTACCAGTTGACCATGACCATGAC", b"GTCATGGTCATGGTCAACTGGTACGTTGCAACGT", b"TTTTTTTTTTTTTTTTTTTTTTTTTTTTTTTTTT")
-three(32, b"ACGTTGCAACGTACCAGTTGACCATGACCATGACA", b"ACGTACGTACGTACGTACGTACGTACGTACGTACG", b"GTCATGGTCATGGTCAACTGGTACGTTGCAACGT")
-three(33, b"ACGTTGCAACGTACCAGTTGACCATGACCATGACAG", b"AAAAAAAAAAAAAAAAAAAAAAAAAAAAAAAAA", b"CTGTCATGGTCATGGTCAACTGGTACGTTGCAACGT")
-three(63, b"ACGTTGCAACGTACCAGTTGACCATGACCATGACAGACGTTGCAACGTACCAGTTGACCATGACC", b"TTTTTTTTTTTTTTTTTTTTTTTTTTTTTTTTTTTTTTTTTTTTTTTTTTTTTTTTTTTTTTTTTA", b"GGTCATGGTCAACTGGTACGTTGCAACGTCTGTCATGGTCATGGTCAACTGGTACGTTGCAACGT")
-few(2, b"ACC", b"ACCG")
-few(3, b"AACTT", b"AAC")
-few(3, b"ACGG", b"TTT")
-by_hand(3, 0, 5, 3, b"ACG")
-by_hand(3, 1, 5, 3, b"ACG")
-by_hand(3, 2, 3, 5, b"AAT")
-by_hand(3, 2, 3, 5, b"ACC")
-by_hand(3, 2, 5, 3, b"ACG")
-by_hand(3, 2, 5, 5, b"ACG")
-by_hand(3, 1, 63, 0, b"ACG")
-by_hand(3, 1, 64, 0, b"ACG")
-by_hand(3, 4, 3, 5, b"ACG")
-by_hand(0, 2, 5, 3, b"ACG")
-by_hand(3, 2, 5, 3, b"")
-by_hand(3, 2, 3, 5, b"N")
-three(5, b"A" * 4096, b"AAAAA", b"N" * 4097)
-by_hand(3, 2, 5, 3, b"N" * 4097)
+def all_cases(mode):
+    lines.append(f"mode {mode}")
+    three(mode, 3, b"ACCCC", b"", b"")
+    three(mode, 3, b"GGGGT", b"", b"")
+    often(mode, 3, b"ACGG", 16)
+    three(mode, 3, b"ACCN", b"", b"")
+    three(mode, 3, b"AN", b"", b"")
+    three(mode, 1, b"AT", b"", b"")
+    three(mode, 0, b"ACGT", b"", b"N")
+    three(mode, 64, b"ACGT", b"", b"N")
+    three(mode, 1, b"ACGTTGCA", b"NA", b"acgu")
+    three(mode, 2, b"CAT", b"ATG", b"AAAA")
+    three(mode, 2, b"ATATAT", b"CGCG", b"GC")
+    three(mode, 3, b"ATCATC", b"GATGAT", b"ATATATA")
+    three(mode, 3, b"CAAAA", b"TTTTG", b"UuTtacGg")
+    three(mode, 3, b"ACGTACGTAAGGCC", b"TTTAGATTACA", b"ACG")
+    three(mode, 4, b"ACGTACGT", b"AACCGGTTR", b"CCCCC")
+    three(mode, 31, b"ACGTTGCAACGTACCAGTTGACCATGACCATGAC", b"GTCATGGTCATGGTCAACTGGTACGTTGCAACGT", b"TTTTTTTTTTTTTTTTTTTTTTTTTTTTTTTTTT")
+    three(mode, 32, b"ACGTTGCAACGTACCAGTTGACCATGACCATGACA", b"ACGTACGTACGTACGTACGTACGTACGTACGTACG", b"GTCATGGTCATGGTCAACTGGTACGTTGCAACGT")
+    three(mode, 33, b"ACGTTGCAACGTACCAGTTGACCATGACCATGACAG", b"AAAAAAAAAAAAAAAAAAAAAAAAAAAAAAAAA", b"CTGTCATGGTCATGGTCAACTGGTACGTTGCAACGT")
+    three(
+        mode, 63,
+        b"ACGTTGCAACGTACCAGTTGACCATGACCATGACAGACGTTGCAACGTACCAGTTGACCATGACC",
+        b"TTTTTTTTTTTTTTTTTTTTTTTTTTTTTTTTTTTTTTTTTTTTTTTTTTTTTTTTTTTTTTTTTA",
+        b"GGTCATGGTCAACTGGTACGTTGCAACGTCTGTCATGGTCATGGTCAACTGGTACGTTGCAACGT",
+    )
+    few(mode, 2, b"ACC", b"ACCG")
+    few(mode, 3, b"AACTT", b"AAC")
+    few(mode, 3, b"ACGG", b"TTT")
+    by_hand(mode, 3, 0, 5, 3, b"ACG")
+    by_hand(mode, 3, 1, 5, 3, b"ACG")
+    by_hand(mode, 3, 2, 3, 5, b"AAT")
+    by_hand(mode, 3, 2, 3, 5, b"ACC")
+    by_hand(mode, 3, 2, 5, 3, b"ACG")
+    by_hand(mode, 3, 2, 5, 5, b"ACG")
+    by_hand(mode, 3, 1, 63, 0, b"ACG")
+    by_hand(mode, 3, 1, 64, 0, b"ACG")
+    by_hand(mode, 3, 4, 3, 5, b"ACG")
+    by_hand(mode, 0, 2, 5, 3, b"ACG")
+    by_hand(mode, 3, 2, 5, 3, b"")
+    by_hand(mode, 3, 2, 3, 5, b"N")
+    three(mode, 5, b"A" * 4096, b"AAAAA", b"N" * 4097)
+    by_hand(mode, 3, 2, 5, 3, b"N" * 4097)
+
+
+for each in ("same canonical", "reversed"):
+    all_cases(each)
 
 here = os.path.dirname(os.path.abspath(__file__))
 with open(os.path.join(here, "..", "crates", "adding_test", "stdout"), "w") as expected:

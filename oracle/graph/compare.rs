@@ -36,7 +36,7 @@ impl Ours {
         let mut figures = [0; 2];
         let r = unsafe {
             lash_add_label(
-                self.k, self.n, self.keys.as_mut_ptr(), self.keys.len(), self.counts.as_mut_ptr(), self.counts.len(), label.as_ptr(),
+                0, self.k, self.n, self.keys.as_mut_ptr(), self.keys.len(), self.counts.as_mut_ptr(), self.counts.len(), label.as_ptr(),
                 label.len(), figures.as_mut_ptr(), 2,
             )
         };
@@ -61,7 +61,7 @@ impl Ours {
         let (mut totals, mut figures) = ([0; 2], [0; 2]);
         let r = unsafe {
             lash_add_labels(
-                self.k, self.n, self.keys.as_mut_ptr(), self.keys.len(), self.counts.as_mut_ptr(), self.counts.len(), text.as_ptr(), text.len(),
+                0, self.k, self.n, self.keys.as_mut_ptr(), self.keys.len(), self.counts.as_mut_ptr(), self.counts.len(), text.as_ptr(), text.len(),
                 starts.as_ptr(), starts.len(), lengths.as_ptr(), lengths.len(), labels.len(), totals.as_mut_ptr(), 2, figures.as_mut_ptr(), 2,
             )
         };

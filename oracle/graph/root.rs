@@ -24,6 +24,8 @@ pub use stand_ins::*;
 mod judge;
 #[path = "HERE/cases.rs"]
 mod cases;
+#[path = "HERE/records.rs"]
+mod records;
 #[path = "HERE/library.rs"]
 mod library;
 #[path = "MAIN"]

@@ -14,7 +14,7 @@ use Rattle.kmer.specs.Kmer.{isCanon}
 use Rattle.kmer.proofs.Windows.{Bases, bases-at}
 use Rattle.state.specs.Counted.{fourBits, counted}
 use Rattle.state.specs.declared.Side.the-variants.{Front, Back}
-use Rattle.graph.specs.Sightings.{sameCanonical, window, predecessor, successor}
+use Rattle.graph.specs.Sightings.{Rule, window, predecessor, successor}
 use Rattle.adding.specs.Batch.{codeAt, countedBy}
 use Rattle.adding.specs.Says.{Coded}
 
@@ -25,22 +25,22 @@ module _ (P : ℕ → Type 0) (none : P 5) (base : (c : ℕ) → c < 4 → P c) 
   turned c p = choose P (ltb c 4) (λ _. base (3 - c) (omega arith)) (λ _. p)
 
   module _ (K : ℕ) (label : List ℕ) where
-    before-one : (o : ℕ) → ((j : ℕ) → j < o → P (codeOf (getD label j 0))) → P (predecessor sameCanonical K label o)
+    before-one : (rule : Rule) (o : ℕ) → ((j : ℕ) → j < o → P (codeOf (getD label j 0))) → P (predecessor rule K label o)
     unfolding predecessor
-    before-one zero b = none
-    before-one (suc j) b =
-        choose P (sameCanonical K (window K label j) (window K label (suc j))) (λ _. none) (λ _. b j (omega arith))
+    before-one rule zero b = none
+    before-one rule (suc j) b =
+        choose P (rule K (window K label j) (window K label (suc j))) (λ _. none) (λ _. b j (omega arith))
 
     after-one : (o : ℕ) → (o + K < length label → P (codeOf (getD label (o + K) 0))) → P (successor K label o)
     unfolding successor
     after-one o a = choose P (ltb (o + K) (length label)) (λ t. a (ltb-true (o + K) (length label) t)) (λ _. none)
 
     -- And what two such numbers have as one, the code has.
-    code-one : (o : ℕ) → ((j : ℕ) → j < o → P (codeOf (getD label j 0))) → (o + K < length label → P (codeOf (getD label (o + K) 0)))
-        → (Q : ℕ → Type 0) → ((x y : ℕ) → P x → P y → Q (x + 8 * y)) → Q (codeAt K label o)
+    code-one : (rule : Rule) (o : ℕ) → ((j : ℕ) → j < o → P (codeOf (getD label j 0))) → (o + K < length label → P (codeOf (getD label (o + K) 0)))
+        → (Q : ℕ → Type 0) → ((x y : ℕ) → P x → P y → Q (x + 8 * y)) → Q (codeAt rule K label o)
     unfolding codeAt
-    code-one o b a Q f =
-        let p = before-one o b in
+    code-one rule o b a Q f =
+        let p = before-one rule o b in
         let q = after-one o a in
         choose Q (isCanon K (window K label o)) (λ _. f _ _ p q) (λ _. f _ _ (turned _ q) (turned _ p))
 
@@ -62,15 +62,15 @@ pub complement-most : {c d r : ℕ} → d ≡ complement c → c ≡ r → r ≤
 complement-most {c} e f h = rw e (turned-most c (rw f h))
 
 module _ (K : ℕ) (label : List ℕ) (o : ℕ) where
-  pub predecessor-most : predecessor sameCanonical K label o ≤ 5
-  predecessor-most = before-one Most (omega arith) most-base K label o (λ j h. most-code (getD label j 0))
+  pub predecessor-most : (rule : Rule) → predecessor rule K label o ≤ 5
+  predecessor-most rule = before-one Most (omega arith) most-base K label rule o (λ j h. most-code (getD label j 0))
 
   pub successor-most : successor K label o ≤ 5
   successor-most = after-one Most (omega arith) most-base K label o (λ h. most-code (getD label (o + K) 0))
 
-  pub code-small : codeAt K label o < 64
-  code-small =
-      code-one Most (omega arith) most-base K label o (λ j h. most-code (getD label j 0)) (λ h. most-code (getD label (o + K) 0))
+  pub code-small : (rule : Rule) → codeAt rule K label o < 64
+  code-small rule =
+      code-one Most (omega arith) most-base K label rule o (λ j h. most-code (getD label j 0)) (λ h. most-code (getD label (o + K) 0))
       (λ (c : ℕ). c < 64) (λ x y a b. omega arith)
 
 module _ (x y : ℕ) (hx : x ≤ 5) (hy : y ≤ 5) where
@@ -122,14 +122,14 @@ module _ (x y : ℕ) (rx : Read x) (ry : Read y) where
     marked = coded-by (x + 8 * y + 64) x y front-under back-under rx ry;
   }
 
-module _ (K : ℕ) (label : List ℕ) (b : Bases label) (o : ℕ) (h : o + K ≤ length label) where
-  coded : BothCoded (codeAt K label o)
+module _ (rule : Rule) (K : ℕ) (label : List ℕ) (b : Bases label) (o : ℕ) (h : o + K ≤ length label) where
+  coded : BothCoded (codeAt rule K label o)
   coded =
       let at : (j : ℕ) → j < length label → Read (codeOf (getD label j 0)) = λ j l. read-base _ (bases-at label j l b) in
-      code-one Read read-none read-base K label o (λ j l. at j (omega arith)) (at (o + K)) BothCoded both-coded
+      code-one Read read-none read-base K label rule o (λ j l. at j (omega arith)) (at (o + K)) BothCoded both-coded
 
-  pub code-coded : Coded (codeAt K label o)
+  pub code-coded : Coded (codeAt rule K label o)
   code-coded = coded .alone
 
-  pub new-coded : Coded (codeAt K label o + 64)
+  pub new-coded : Coded (codeAt rule K label o + 64)
   new-coded = coded .marked

@@ -9,6 +9,7 @@ use lib.ListN.{length, length-append}
 use borrow.Author.Tests.{eqb-true, ne-eqb, not-true, not-false}
 use Rattle.lemmas.proofs.Tests.{choose, never}
 use Rattle.graph.specs.Table.{Table, stored, store}
+use Rattle.graph.specs.Sightings.{Rule}
 use Rattle.graph.specs.Adding.{storeWindows}
 use Rattle.graph.proofs.Store.{store-there, store-length}
 use Rattle.graph.proofs.Adding.{store-or}
@@ -72,19 +73,19 @@ module _ (K : ℕ) (label ks : List ℕ) where
 
   module _ (y : ℕ) where
     -- A k-mer that is not stored has all its windows among the rows.
-    pub rows-tally : (m w : ℕ) → stored ks y ≡ false → tallyRows K label y (newRows K label ks m) w ≡ tally K label y m w
+    pub rows-tally : (rule : Rule) (m w : ℕ) → stored ks y ≡ false → tallyRows rule K label y (newRows K label ks m) w ≡ tally rule K label y m w
     unfolding newRows tally tallyRows
-    rows-tally zero w n = refl
-    rows-tally (suc m) w n =
+    rows-tally rule zero w n = refl
+    rows-tally rule (suc m) w n =
         let x : ℕ = kmerAt K label m in
         let old : List Row = newRows K label ks m in
-        let ih = rows-tally m w n in
-        choose (λ (l : List Row). tallyRows K label y (old ++ l) w ≡ tally K label y (suc m) w) (isNew K label ks m)
-        (λ _. tally-append K label y old (record { key = x; number = m } ∷ []) w
-        ∙ ap (λ (v : ℕ). cond (eqb x y) (countedBy (codeAt K label m) v) v) ih)
+        let ih = rows-tally rule m w n in
+        choose (λ (l : List Row). tallyRows rule K label y (old ++ l) w ≡ tally rule K label y (suc m) w) (isNew K label ks m)
+        (λ _. tally-append rule K label y old (record { key = x; number = m } ∷ []) w
+        ∙ ap (λ (v : ℕ). cond (eqb x y) (countedBy (codeAt rule K label m) v) v) ih)
         (λ e.
         let q : eqb x y ≡ false = ne-eqb x y (λ d. never (stored ks y) (ap (stored ks) (sym d) ∙ not-false (stored ks x) e) n) in
-        rw q (tally-append K label y old [] w ∙ ih))
+        rw q (tally-append rule K label y old [] w ∙ ih))
 
     -- With the windows stored, y is stored if it was or is among the rows.
     pub rows-stored : (t : Table) → t .keys ≡ ks → (m : ℕ)

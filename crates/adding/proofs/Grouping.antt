@@ -9,6 +9,7 @@ use lib.ListN.{length, getD, set, length-set}
 use borrow.Author.Tests.{ltb-true, lt-ltb, eqb-true, eqb-false}
 use Rattle.lemmas.proofs.Tests.{both}
 use Rattle.kmer.specs.Kmer.{joined}
+use Rattle.graph.specs.Sightings.{Rule}
 use Rattle.graph.specs.Table.{keysOf}
 use Rattle.graph.proofs.Rank.{stored-nil}
 use Rattle.graph.proofs.Fit.{fit-nil}
@@ -32,8 +33,8 @@ pub record Grouping (q : ℕ) (notes places offsets keys₀ places₀ counts₀ 
   pub long-counts : length counts ≡ length counts₀
   pub kept : (i : ℕ) → 2 * t ≤ i → getD keys i 0 ≡ getD keys₀ i 0
   pub last : 0 < u → keyAt keys (u - 1) ≡ keyAt keys₀ (t - 1)
-  pub grouped : (K : ℕ) (label ks : List ℕ) → Listed K label ks q notes places offsets keys₀
-      → Grouped K label ks (rows t keys₀ offsets) u keys new-places counts
+  pub grouped : (rule : Rule) (K : ℕ) (label ks : List ℕ) → Listed rule K label ks q notes places offsets keys₀
+      → Grouped rule K label ks (rows t keys₀ offsets) u keys new-places counts
 
 module _ {q : ℕ} {notes places offsets keys₀ places₀ counts₀ : List ℕ} (y : Rowed q notes places offsets keys₀ places₀ counts₀) where
   pub grouping-none : Grouping q notes places offsets keys₀ places₀ counts₀ 0 0 keys₀ places₀ counts₀
@@ -46,7 +47,7 @@ module _ {q : ℕ} {notes places offsets keys₀ places₀ counts₀ : List ℕ}
     long-counts = refl;
     kept = λ i h. refl;
     last = λ h. absurd (omega arith);
-    grouped = λ K label ks l. record {
+    grouped = λ rule K label ks l. record {
       number = refl;
       fits = fit-nil K 0;
       same = stored-nil;
@@ -79,10 +80,10 @@ module _ {q : ℕ} {notes places offsets keys₀ places₀ counts₀ : List ℕ}
           long-counts = length-set counts (u - 1) w ∙ v .long-counts;
           kept = λ i a. v .kept i (omega arith);
           last = λ a. rw back at;
-          grouped = λ K label ks l.
+          grouped = λ rule K label ks l.
               rw next
-              (grouped-same K label ks (rows t keys₀ offsets) (rowAt keys₀ offsets t) u keys new-places counts
-              (v .grouped K label ks l) (l .noted t h) (ltb-true 0 u (b .0)) at
+              (grouped-same rule K label ks (rows t keys₀ offsets) (rowAt keys₀ offsets t) u keys new-places counts
+              (v .grouped rule K label ks l) (l .noted t h) (ltb-true 0 u (b .0)) at
               (rw (v .long-keys) (omega (arith, v .few, y .keys-there))) (omega (arith, v .few, v .long-counts, y .room-counts)) ew);
         }
 
@@ -105,10 +106,10 @@ module _ {q : ℕ} {notes places offsets keys₀ places₀ counts₀ : List ℕ}
           kept = λ i a.
               ap (λ (l : List ℕ). getD l i 0) ek ∙ put-other keys u x i (omega (arith, v .few)) ∙ v .kept i (omega arith);
           last = λ a. rw (end, back, ek) (put-key keys u x lk ∙ here);
-          grouped = λ K label ks l.
+          grouped = λ rule K label ks l.
               rw (next, ek, here)
-              (grouped-new K label ks (rows t keys₀ offsets) (rowAt keys₀ offsets t) u keys new-places counts
-              (v .grouped K label ks l) (l .noted t h)
+              (grouped-new rule K label ks (rows t keys₀ offsets) (rowAt keys₀ offsets t) u keys new-places counts
+              (v .grouped rule K label ks l) (l .noted t h)
               (λ a.
               omega (
                 arith,
@@ -124,6 +125,6 @@ module _ {q : ℕ} {notes places offsets keys₀ places₀ counts₀ : List ℕ}
 
   pub grouping-all : {t u : ℕ} {keys new-places counts : List ℕ}
       → Grouping q notes places offsets keys₀ places₀ counts₀ t u keys new-places counts → q ≤ t
-      → (K : ℕ) (label ks : List ℕ) → Listed K label ks q notes places offsets keys₀
-      → Grouped K label ks (rows q keys₀ offsets) u keys new-places counts
+      → (rule : Rule) (K : ℕ) (label ks : List ℕ) → Listed rule K label ks q notes places offsets keys₀
+      → Grouped rule K label ks (rows q keys₀ offsets) u keys new-places counts
   grouping-all {t} v h = let e : t ≡ q = omega (arith, v .upto) in rw e at (v .grouped)

@@ -16,7 +16,7 @@ use Rattle.graph.proofs.Fit.{fit-cons}
 use Rattle.graph.proofs.Insert.{withKey, insert-length, insert-fit, insert-stored, insert-other, insert-value, insert-keeps}
 use Rattle.table.specs.Join.{rising, putIn}
 use Rattle.adding.proofs.Ranks.{rank-grows, rank-behind}
-use Rattle.adding.proofs.Alike.{stored-low, stored-head}
+use Rattle.graph.proofs.Alike.{stored-low, stored-head}
 
 module _ (ks : List ℕ) where
   -- Keys put in at their ranks, and a word beside each.

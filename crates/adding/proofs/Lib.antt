@@ -1,4 +1,5 @@
 pub mod Seeing
+pub mod Skipping
 pub mod Neighbours
 pub mod Rowing
 pub mod Raising
@@ -15,7 +16,6 @@ pub mod Each
 pub mod Stability
 pub mod Fresh
 pub mod Ranks
-pub mod Alike
 pub mod Joined
 pub mod Coding
 pub mod Words

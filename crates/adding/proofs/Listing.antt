@@ -10,7 +10,7 @@ use borrow.Author.Tests.{le-leb}
 use Rattle.dna.specs.Text.{over}
 use Rattle.kmer.specs.Kmer.{low, high, joined}
 use Rattle.graph.specs.Table.{wordsOf, rank}
-use Rattle.graph.specs.Sightings.{windows}
+use Rattle.graph.specs.Sightings.{Rule, windows}
 use Rattle.graph.proofs.Lookup.{Key}
 use Rattle.graph.proofs.Adding.{window-key}
 use Rattle.sorting.proofs.Ordered.{sort-length}
@@ -43,8 +43,8 @@ ordered-at z (r ∷ rs) o (suc i) (suc j) h l = ordered-at z rs (o .1) i j (omeg
 
 -- ---- gathered and sorted
 
-module _ {K : ℕ} {label ks : List ℕ} {q : ℕ} {notes places keys₀ offsets₀ : List ℕ} (given : Given K label)
-    (g : Gathers K label ks (windows K label) q notes places keys₀ offsets₀)
+module _ {rule : Rule} {K : ℕ} {label ks : List ℕ} {q : ℕ} {notes places keys₀ offsets₀ : List ℕ} (given : Given K label)
+    (g : Gathers rule K label ks (windows K label) q notes places keys₀ offsets₀)
     (room-keys : windows K label ≤ length keys₀ / 2) (room-offsets : windows K label ≤ length offsets₀)
     {r : Bool} {keys offsets : List ℕ} (s : Sorts r keys₀ offsets₀ q keys offsets)
     (long-keys : length keys ≡ length keys₀) (long-offsets : length offsets ≡ length offsets₀) where
@@ -92,7 +92,7 @@ module _ {K : ℕ} {label ks : List ℕ} {q : ℕ} {notes places keys₀ offsets
       let f = row-fresh i h in
       rw (f .kmer) (window-key K label (getD offsets i 0) (inr (given .bases)) (f .below))
 
-  listed : Listed K label ks q notes places offsets keys
+  listed : Listed rule K label ks q notes places offsets keys
   listed = record {
     ascends = λ i j h l.
         let a : getD rs i none .key ≡ keyAt keys i = ap (λ (p : Row). p .key) (row-is i (omega arith)) in
@@ -103,7 +103,7 @@ module _ {K : ℕ} {label ks : List ℕ} {q : ℕ} {notes places keys₀ offsets
     noted = λ i h.
         let f = row-fresh i h in
         g .looked .noted (getD offsets i 0) (f .below)
-        ∙ ap (λ (b : Bool). codeAt K label (getD offsets i 0) + cond b 64 0) (f .new);
+        ∙ ap (λ (b : Bool). codeAt rule K label (getD offsets i 0) + cond b 64 0) (f .new);
     placed = λ i h. let f = row-fresh i h in g .looked .placed (getD offsets i 0) (f .below) ∙ ap (rank ks) (sym (f .kmer));
   }
 
@@ -119,11 +119,11 @@ module _ {K : ℕ} {label ks : List ℕ} {q : ℕ} {notes places keys₀ offsets
     place-there = λ i h. let l = row-fresh i h .below in omega arith;
     coded = λ i h.
         let l = row-fresh i h .below in
-        rw (listed .noted i h) (new-coded K label (given .bases) (getD offsets i 0) (omega arith));
+        rw (listed .noted i h) (new-coded rule K label (given .bases) (getD offsets i 0) (omega arith));
   }
 
   -- So the vertices made of the rows are those of the new rows in order.
   pub sorted-grouped : {u : ℕ} {new-keys new-places new-counts : List ℕ}
-      → (Listed K label ks q notes places offsets keys → Grouped K label ks (rows q keys offsets) u new-keys new-places new-counts)
-      → Grouped K label ks rs u new-keys new-places new-counts
+      → (Listed rule K label ks q notes places offsets keys → Grouped rule K label ks (rows q keys offsets) u new-keys new-places new-counts)
+      → Grouped rule K label ks rs u new-keys new-places new-counts
   sorted-grouped made = rw sorted-rows at (made listed)

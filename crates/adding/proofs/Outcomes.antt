@@ -8,7 +8,7 @@ use Rattle.dna.specs.Letters.{firstBad}
 use Rattle.kmer.proofs.Bounds.{ok-bounds}
 use Rattle.kmer.proofs.Testing.{no-bad-bases}
 use Rattle.state.specs.Counted.{fourBits}
-use Rattle.graph.specs.Sightings.{sameCanonical}
+use Rattle.graph.specs.Sightings.{Rule}
 use Rattle.graph.specs.Adding.{Added, addBases, addLabel}
 use Rattle.table.specs.Calls.{fitAnswer, fitCall}
 use Rattle.table.specs.declared.FitAnswer.{FitAnswer}
@@ -20,23 +20,23 @@ use Rattle.adding.specs.declared.Bad.the-variants as bad
 use Rattle.adding.specs.declared.AddAnswer.{AddAnswer}
 use Rattle.adding.specs.declared.AddAnswer.the-variants as add
 
-abbrev whole : ℕ → ℕ → List ℕ → List ℕ → List ℕ → Added
-whole K n keys counts label = addLabel fourBits sameCanonical K n keys counts label
+abbrev whole : Rule → ℕ → ℕ → List ℕ → List ℕ → List ℕ → Added
+whole rule K n keys counts label = addLabel fourBits rule K n keys counts label
 
 -- An answer that changes nothing.
 stays : {r : AddAnswer} {keys counts : List ℕ} → Adds r keys counts (record { answer = addAnswer r; keys = keys; counts = counts })
 stays = record { answer = refl; keys-after = refl; counts-after = refl }
 
-module _ (K n : ℕ) (keys counts label : List ℕ) where
+module _ (rule : Rule) (K n : ℕ) (keys counts label : List ℕ) where
   -- The table is not fit for it, or is.
   module _ {r : FitAnswer} (t : fitAnswer r ≡ fitCall K n keys counts) where
-    pub unsupported : {k : ℕ} → r ≡ UnsupportedK k → Adds (add.UnsupportedK k) keys counts (whole K n keys counts label)
+    pub unsupported : {k : ℕ} → r ≡ UnsupportedK k → Adds (add.UnsupportedK k) keys counts (whole rule K n keys counts label)
     unfolding addLabel
     unsupported {k} e =
         let q = told-unsupported K n keys counts t e in
         rw (q .0, q .1) stays
 
-    pub unfit : r ≡ Unfit → Adds add.Unfit keys counts (whole K n keys counts label)
+    pub unfit : r ≡ Unfit → Adds add.Unfit keys counts (whole rule K n keys counts label)
     unfolding addLabel
     unfit e =
         let q = told-unfit K n keys counts t e in
@@ -46,12 +46,12 @@ module _ (K n : ℕ) (keys counts label : List ℕ) where
     ready e = told-fit K n keys counts t e
 
   module _ (ok : Ready K n keys counts) where
-    pub too-long : 4096 < length label → Adds (add.TooLong (length label)) keys counts (whole K n keys counts label)
+    pub too-long : 4096 < length label → Adds (add.TooLong (length label)) keys counts (whole rule K n keys counts label)
     unfolding addLabel
     too-long h = rw (ok .0, ok .1, lt-ltb 4096 (length label) h) stays
 
     module _ (short : length label ≤ 4096) where
-      pub too-short : length label < K → Adds (add.Added 0 n) keys counts (whole K n keys counts label)
+      pub too-short : length label < K → Adds (add.Added 0 n) keys counts (whole rule K n keys counts label)
       unfolding addLabel
       too-short h =
           rw (ok .0, ok .1, le-ltb 4096 (length label) short, lt-ltb (length label) K h) stays
@@ -59,14 +59,14 @@ module _ (K n : ℕ) (keys counts label : List ℕ) where
       module _ (long : K ≤ length label) {b : Bad} (p : placeIn b ≡ firstBad 0 label) where
         -- The rest is by the label's first bad place.
         by-place : (z : Bad) → b ≡ z
-            → whole K n keys counts label ≡ addBases fourBits sameCanonical K n keys counts label (placeIn z)
+            → whole rule K n keys counts label ≡ addBases fourBits rule K n keys counts label (placeIn z)
         unfolding addLabel
         by-place z q =
             rw (ok .0, ok .1, le-ltb 4096 (length label) short, le-ltb (length label) K long)
-            (ap (addBases fourBits sameCanonical K n keys counts label) (sym p ∙ ap placeIn q))
+            (ap (addBases fourBits rule K n keys counts label) (sym p ∙ ap placeIn q))
 
         pub no-base : {place byte : ℕ} → b ≡ bad.At place byte
-            → Adds (add.InvalidBase place byte) keys counts (whole K n keys counts label)
+            → Adds (add.InvalidBase place byte) keys counts (whole rule K n keys counts label)
         unfolding addBases
         no-base {place} {byte} q = rw (by-place (bad.At place byte) q) stays
 
@@ -85,6 +85,6 @@ module _ (K n : ℕ) (keys counts label : List ℕ) where
             }
 
         pub of-bases : b ≡ bad.Nowhere → {z : AddAnswer} {ks cs : List ℕ}
-            → Adds z ks cs (addBases fourBits sameCanonical K n keys counts label [])
-            → Adds z ks cs (whole K n keys counts label)
+            → Adds z ks cs (addBases fourBits rule K n keys counts label [])
+            → Adds z ks cs (whole rule K n keys counts label)
         of-bases q a = rw (by-place bad.Nowhere q) a

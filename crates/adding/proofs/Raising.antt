@@ -12,6 +12,7 @@ use lib.Seq.{getD-set-same, getD-set-other, drop-set-lt}
 use borrow.Author.Tests.{eqb-true, eqb-false, eq-eqb, ne-eqb}
 use Rattle.lemmas.proofs.Numbers.{true-or-false}
 use Rattle.lemmas.proofs.Tests.{never}
+use Rattle.graph.specs.Sightings.{Rule}
 use Rattle.graph.specs.Table.{fitFrom, rank, stored}
 use Rattle.graph.proofs.Rank.{stored-lt, stored-at}
 use Rattle.graph.proofs.Lookup.{at-stored, key-inj}
@@ -19,25 +20,25 @@ use Rattle.adding.specs.Batch.{countedBy, kmerAt, codeAt, tally, noteAt,
 use Rattle.adding.specs.Says.{Known}
 use Rattle.adding.proofs.Coding.{code-small}
 
-module _ (K : ℕ) (label : List ℕ) where
-  tally-here : (y m w : ℕ) → kmerAt K label m ≡ y → tally K label y (suc m) w ≡ countedBy (codeAt K label m) (tally K label y m w)
+module _ (rule : Rule) (K : ℕ) (label : List ℕ) where
+  tally-here : (y m w : ℕ) → kmerAt K label m ≡ y → tally rule K label y (suc m) w ≡ countedBy (codeAt rule K label m) (tally rule K label y m w)
   unfolding tally
   tally-here y m w e = rw (eq-eqb (kmerAt K label m) y e)
 
-  tally-other : (y m w : ℕ) → (kmerAt K label m ≡ y → ⊥) → tally K label y (suc m) w ≡ tally K label y m w
+  tally-other : (y m w : ℕ) → (kmerAt K label m ≡ y → ⊥) → tally rule K label y (suc m) w ≡ tally rule K label y m w
   unfolding tally
   tally-other y m w n = rw (ne-eqb (kmerAt K label m) y n)
 
   -- A note tells whether its k-mer is stored.
-  module _ (ks : List ℕ) (i : ℕ) {note : ℕ} (e : note ≡ noteAt K label ks i) where
-    pub known-note : note < 64 → (stored ks (kmerAt K label i) ≡ true) × (note ≡ codeAt K label i)
+  module _ (ks : List ℕ) (i : ℕ) {note : ℕ} (e : note ≡ noteAt rule K label ks i) where
+    pub known-note : note < 64 → (stored ks (kmerAt K label i) ≡ true) × (note ≡ codeAt rule K label i)
     known-note h =
         ⊎-elim
         (λ s.
-        let n : note ≡ codeAt K label i + 0 = e ∙ rw s in
+        let n : note ≡ codeAt rule K label i + 0 = e ∙ rw s in
         (s, omega arith))
         (λ s.
-        let n : note ≡ codeAt K label i + 64 = e ∙ rw s in
+        let n : note ≡ codeAt rule K label i + 64 = e ∙ rw s in
         absurd (omega arith))
         (true-or-false (stored ks (kmerAt K label i)))
 
@@ -45,15 +46,15 @@ module _ (K : ℕ) (label : List ℕ) where
     new-note h =
         ⊎-elim
         (λ s.
-        let n : note ≡ codeAt K label i + 0 = e ∙ rw s in
-        absurd (omega (arith, code-small K label i)))
+        let n : note ≡ codeAt rule K label i + 0 = e ∙ rw s in
+        absurd (omega (arith, code-small K label i rule)))
         (λ s. s)
         (true-or-false (stored ks (kmerAt K label i)))
 
-  module _ (ks : List ℕ) (fits : fitFrom K 0 ks ≡ true) (m : ℕ) (notes places : List ℕ) (looked : Looked K label ks m notes places)
-      (o : ℕ) (h : o < m) {counts₀ counts : List ℕ} (v : Raised K label ks o counts₀ counts) where
+  module _ (ks : List ℕ) (fits : fitFrom K 0 ks ≡ true) (m : ℕ) (notes places : List ℕ) (looked : Looked rule K label ks m notes places)
+      (o : ℕ) (h : o < m) {counts₀ counts : List ℕ} (v : Raised rule K label ks o counts₀ counts) where
     raised-known : getD notes o 0 < 64 → getD places o 0 < length counts
-        → Raised K label ks (suc o) counts₀ (set counts (getD places o 0) (countedBy (getD notes o 0) (getD counts (getD places o 0) 0)))
+        → Raised rule K label ks (suc o) counts₀ (set counts (getD places o 0) (countedBy (getD notes o 0) (getD counts (getD places o 0) 0)))
     raised-known s l =
         let n = known-note ks o (looked .noted o h) s in
         let x : ℕ = kmerAt K label o in
@@ -79,7 +80,7 @@ module _ (K : ℕ) (label : List ℕ) where
           rest = drop-set-lt (length ks) counts i w lt ∙ v .rest;
         }
 
-    raised-new : 64 ≤ getD notes o 0 → Raised K label ks (suc o) counts₀ counts
+    raised-new : 64 ≤ getD notes o 0 → Raised rule K label ks (suc o) counts₀ counts
     raised-new s =
         let n = new-note ks o (looked .noted o h) s in
         record {
@@ -95,7 +96,7 @@ module _ (K : ℕ) (label : List ℕ) where
 pub record Raising (m : ℕ) (notes places counts₀ : List ℕ) (o : ℕ) (counts : List ℕ) : Type 0 where
   pub upto : o ≤ m
   pub long : length counts ≡ length counts₀
-  pub raised : (K : ℕ) (label ks : List ℕ) → fitFrom K 0 ks ≡ true → Looked K label ks m notes places → Raised K label ks o counts₀ counts
+  pub raised : (rule : Rule) (K : ℕ) (label ks : List ℕ) → fitFrom K 0 ks ≡ true → Looked rule K label ks m notes places → Raised rule K label ks o counts₀ counts
 
 module _ {m : ℕ} {notes places counts₀ : List ℕ} where
   pub raising-none : Raising m notes places counts₀ 0 counts₀
@@ -103,7 +104,7 @@ module _ {m : ℕ} {notes places counts₀ : List ℕ} where
   raising-none = record {
     upto = omega arith;
     long = refl;
-    raised = λ K label ks f l. record { long = refl; tallied = λ g b. refl; rest = refl };
+    raised = λ rule K label ks f l. record { long = refl; tallied = λ g b. refl; rest = refl };
   }
 
   module _ (y : Known m notes places counts₀) {o : ℕ} {counts : List ℕ} (v : Raising m notes places counts₀ o counts) (h : o < m) where
@@ -115,17 +116,17 @@ module _ {m : ℕ} {notes places counts₀ : List ℕ} where
     raising-known s {w} e = record {
       upto = omega arith;
       long = length-set counts (getD places o 0) w ∙ v .long;
-      raised = λ K label ks f l.
-          rw (add-one o, e) (raised-known K label ks f m notes places l o h (v .raised K label ks f l) s (counter-now s));
+      raised = λ rule K label ks f l.
+          rw (add-one o, e) (raised-known rule K label ks f m notes places l o h (v .raised rule K label ks f l) s (counter-now s));
     }
 
     pub raising-new : 64 ≤ getD notes o 0 → Raising m notes places counts₀ (o + 1) counts
     raising-new s = record {
       upto = omega arith;
       long = v .long;
-      raised = λ K label ks f l. rw (add-one o) (raised-new K label ks f m notes places l o h (v .raised K label ks f l) s);
+      raised = λ rule K label ks f l. rw (add-one o) (raised-new rule K label ks f m notes places l o h (v .raised rule K label ks f l) s);
     }
 
   pub raising-all : {o : ℕ} {counts : List ℕ} → Raising m notes places counts₀ o counts → m ≤ o
-      → (K : ℕ) (label ks : List ℕ) → fitFrom K 0 ks ≡ true → Looked K label ks m notes places → Raised K label ks m counts₀ counts
+      → (rule : Rule) (K : ℕ) (label ks : List ℕ) → fitFrom K 0 ks ≡ true → Looked rule K label ks m notes places → Raised rule K label ks m counts₀ counts
   raising-all {o} v h = let e : o ≡ m = omega (arith, v .upto) in rw e at (v .raised)

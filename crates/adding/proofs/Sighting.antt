@@ -12,7 +12,7 @@ use Rattle.state.specs.declared.Side.{Side}
 use Rattle.state.specs.declared.Side.the-variants.{Front, Back}
 use Rattle.state.specs.Counted.{Kind, fourBits, raise, counted, slotOf}
 use Rattle.graph.specs.Table.{Table, rank, sight}
-use Rattle.graph.specs.Sightings.{sameCanonical, window, predecessor, successor, sighting, sightingsAt}
+use Rattle.graph.specs.Sightings.{Rule, window, predecessor, successor, sighting, sightingsAt}
 use Rattle.graph.specs.Adding.{sightAll}
 use Rattle.graph.proofs.Adding.{all-append}
 use Rattle.adding.specs.Batch.{kmerAt, codeAt, countedBy}
@@ -52,7 +52,7 @@ module _ (κ : Kind) (t : Table) (x : ℕ) (inside : rank (t .keys) x < length (
       ∙ ap (λ (cs : List ℕ). record { keys = t .keys; counts = cs }) (set-set (t .counts) i w (counted κ w Back q))
 
 -- Those of one window.
-module _ (K : ℕ) (label : List ℕ) (o : ℕ) (t : Table) where
+module _ (rule : Rule) (K : ℕ) (label : List ℕ) (o : ℕ) (t : Table) where
   abbrev vertex : ℕ
   vertex = kmerAt K label o
 
@@ -63,13 +63,13 @@ module _ (K : ℕ) (label : List ℕ) (o : ℕ) (t : Table) where
   old = getD (t .counts) place 0
 
   abbrev p : ℕ
-  p = predecessor sameCanonical K label o
+  p = predecessor rule K label o
 
   abbrev q : ℕ
   q = successor K label o
 
   pub window-sighted : place < length (t .counts)
-      → sightAll fourBits t (sightingsAt sameCanonical K label o) .counts ≡ set (t .counts) place (countedBy (codeAt K label o) old)
+      → sightAll fourBits t (sightingsAt rule K label o) .counts ≡ set (t .counts) place (countedBy (codeAt rule K label o) old)
   unfolding sightingsAt codeAt
   window-sighted h = ap (λ (u : Table). u .counts) (go (isCanon K (window K label o)))
     where
@@ -82,6 +82,6 @@ module _ (K : ℕ) (label : List ℕ) (o : ℕ) (t : Table) where
           (cond s (sighting vertex Front p ++ sighting vertex Back q)
           (sighting vertex Front (complement q) ++ sighting vertex Back (complement p)))
           ≡ wordAt t place (countedBy (cond s (p + 8 * q) (complement q + 8 * complement p)) old)
-      go true = two p q (predecessor-most K label o) (successor-most K label o)
+      go true = two p q (predecessor-most K label o rule) (successor-most K label o)
       go false =
-          two (complement q) (complement p) (turned-most q (successor-most K label o)) (turned-most p (predecessor-most K label o))
+          two (complement q) (complement p) (turned-most q (successor-most K label o)) (turned-most p (predecessor-most K label o rule))

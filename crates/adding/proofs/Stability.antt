@@ -10,6 +10,7 @@ use borrow.Author.Tests.{ltb-true, ltb-false, le-ltb, eqb-true, ne-eqb}
 use Rattle.lemmas.proofs.Tests.{choose, both, or-first, never}
 use Rattle.lemmas.proofs.Numbers.{true-or-false}
 use Rattle.sorting.specs.Index.{putBy, sortBy}
+use Rattle.graph.specs.Sightings.{Rule}
 use Rattle.keysort.specs.Rows.{Row, comesFirst}
 use Rattle.adding.specs.Batch.{hasKey, countedBy, codeAt, tallyRows}
 use Rattle.adding.proofs.Each.{Each, each-put, each-sort, each-weaker}
@@ -50,10 +51,10 @@ module _ (y : ℕ) where
 
 -- ---- its counters
 
-module _ (K : ℕ) (label : List ℕ) (y : ℕ) where
+module _ (rule : Rule) (K : ℕ) (label : List ℕ) (y : ℕ) where
   -- A word with a row counted, if the row is y's.
   abbrev step : Row → ℕ → ℕ
-  step r w = cond (eqb (r .key) y) (countedBy (codeAt K label (r .number)) w) w
+  step r w = cond (eqb (r .key) y) (countedBy (codeAt rule K label (r .number)) w) w
 
   -- Rows of two k-mers may change places.
   steps-swap : (r s : Row) (w : ℕ) → s .key < r .key → step r (step s w) ≡ step s (step r w)
@@ -63,15 +64,15 @@ module _ (K : ℕ) (label : List ℕ) (y : ℕ) where
       (λ e. rw e) (true-or-false (eqb (r .key) y))
 
   tally-put : (r : Row) (rs : List Row) (w : ℕ) → Each (λ s. r .number < s .number) rs
-      → tallyRows K label y (putBy comesFirst r rs) w ≡ tallyRows K label y rs (step r w)
+      → tallyRows rule K label y (putBy comesFirst r rs) w ≡ tallyRows rule K label y rs (step r w)
   unfolding tallyRows putBy
   tally-put r [] w a = refl
   tally-put r (s ∷ rs) w a =
       let ih = tally-put r rs (step s w) (a .1) in
-      choose (λ (l : List Row). tallyRows K label y l w ≡ tallyRows K label y rs (step s (step r w))) (comesFirst s r)
-      (λ c. ih ∙ ap (tallyRows K label y rs) (steps-swap r s w (passes s r (a .0) c))) (λ _. refl)
+      choose (λ (l : List Row). tallyRows rule K label y l w ≡ tallyRows rule K label y rs (step s (step r w))) (comesFirst s r)
+      (λ c. ih ∙ ap (tallyRows rule K label y rs) (steps-swap r s w (passes s r (a .0) c))) (λ _. refl)
 
-  pub tally-sort : (rs : List Row) (w : ℕ) → Numbered rs → tallyRows K label y (sortBy comesFirst rs) w ≡ tallyRows K label y rs w
+  pub tally-sort : (rs : List Row) (w : ℕ) → Numbered rs → tallyRows rule K label y (sortBy comesFirst rs) w ≡ tallyRows rule K label y rs w
   unfolding tallyRows sortBy
   tally-sort [] w n = refl
   tally-sort (r ∷ rs) w n =

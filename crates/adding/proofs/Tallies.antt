@@ -7,6 +7,7 @@ use native.Mathlib.Omega.{arith}
 use lib.Dec.{eqb}
 use borrow.Author.Tests.{eq-eqb, ne-eqb}
 use Rattle.lemmas.proofs.Tests.{or-first, or-second}
+use Rattle.graph.specs.Sightings.{Rule}
 use Rattle.keysort.specs.Rows.{Row}
 use Rattle.adding.specs.Batch.{countedBy, hasKey, codeAt, tallyRows}
 
@@ -35,23 +36,23 @@ marked-counts c w =
     round : (n : ℕ) → (n + 8) % 8 ≡ n % 8
     round n = omega arith
 
-module _ (K : ℕ) (label : List ℕ) where
-  pub tally-append : (y : ℕ) (rs ss : List Row) (w : ℕ) → tallyRows K label y (rs ++ ss) w ≡ tallyRows K label y ss (tallyRows K label y rs w)
+module _ (rule : Rule) (K : ℕ) (label : List ℕ) where
+  pub tally-append : (y : ℕ) (rs ss : List Row) (w : ℕ) → tallyRows rule K label y (rs ++ ss) w ≡ tallyRows rule K label y ss (tallyRows rule K label y rs w)
   unfolding tallyRows
   tally-append y [] ss w = refl
-  tally-append y (r ∷ rs) ss w = tally-append y rs ss (cond (eqb (r .key) y) (countedBy (codeAt K label (r .number)) w) w)
+  tally-append y (r ∷ rs) ss w = tally-append y rs ss (cond (eqb (r .key) y) (countedBy (codeAt rule K label (r .number)) w) w)
 
   module _ (y : ℕ) (rs : List Row) (r : Row) (w : ℕ) where
-    pub row-counted : r .key ≡ y → tallyRows K label y (rs ++ (r ∷ [])) w ≡ countedBy (codeAt K label (r .number)) (tallyRows K label y rs w)
+    pub row-counted : r .key ≡ y → tallyRows rule K label y (rs ++ (r ∷ [])) w ≡ countedBy (codeAt rule K label (r .number)) (tallyRows rule K label y rs w)
     unfolding tallyRows
     row-counted e = tally-append y rs (r ∷ []) w ∙ rw (eq-eqb (r .key) y e)
 
-    pub row-passed : (r .key ≡ y → ⊥) → tallyRows K label y (rs ++ (r ∷ [])) w ≡ tallyRows K label y rs w
+    pub row-passed : (r .key ≡ y → ⊥) → tallyRows rule K label y (rs ++ (r ∷ [])) w ≡ tallyRows rule K label y rs w
     unfolding tallyRows
     row-passed n = tally-append y rs (r ∷ []) w ∙ rw (ne-eqb (r .key) y n)
 
   -- Rows of other k-mers count nothing.
-  pub tally-none : (y : ℕ) (rs : List Row) (w : ℕ) → hasKey y rs ≡ false → tallyRows K label y rs w ≡ w
+  pub tally-none : (y : ℕ) (rs : List Row) (w : ℕ) → hasKey y rs ≡ false → tallyRows rule K label y rs w ≡ w
   unfolding tallyRows hasKey
   tally-none y [] w h = refl
   tally-none y (p ∷ rs) w h =

@@ -12,6 +12,7 @@ use borrow.Author.Tests.{eqb-true, eqb-false}
 use Rattle.lemmas.proofs.Numbers.{true-or-false}
 use Rattle.lemmas.proofs.Tests.{never}
 use Rattle.kmer.specs.Kmer.{isCanon}
+use Rattle.graph.specs.Sightings.{Rule}
 use Rattle.graph.specs.Table.{keysOf, rank, stored}
 use Rattle.graph.proofs.Lookup.{at-stored, key-inj}
 use Rattle.table.proofs.Keys.{key-is}
@@ -22,13 +23,13 @@ use Rattle.adding.proofs.Above.{above-new, above-fit, above-stored}
 use Rattle.adding.proofs.Tallies.{or-absorbs, has-snoc, marked-counts, row-counted, row-passed, tally-none}
 
 -- One row more, with the note of its window.
-module _ (K : ℕ) (label ks : List ℕ) (rs : List Row) (r : Row) (u : ℕ) (keys places counts : List ℕ)
-    (g : Grouped K label ks rs u keys places counts) {note : ℕ} (en : note ≡ codeAt K label (r .number) + 64) where
+module _ (rule : Rule) (K : ℕ) (label ks : List ℕ) (rs : List Row) (r : Row) (u : ℕ) (keys places counts : List ℕ)
+    (g : Grouped rule K label ks rs u keys places counts) {note : ℕ} (en : note ≡ codeAt rule K label (r .number) + 64) where
   abbrev kk : List ℕ
   kk = keysOf u keys
 
-  counts-note : (w : ℕ) → countedBy note w ≡ countedBy (codeAt K label (r .number)) w
-  counts-note w = rw en (marked-counts (codeAt K label (r .number)) w)
+  counts-note : (w : ℕ) → countedBy note w ≡ countedBy (codeAt rule K label (r .number)) w
+  counts-note w = rw en (marked-counts (codeAt rule K label (r .number)) w)
 
   -- Of the last vertex's k-mer.
   module _ (some : 0 < u) (last : keyAt keys (u - 1) ≡ r .key) (lk : u ≤ length keys / 2) (lc : u ≤ length counts) where
@@ -45,24 +46,24 @@ module _ (K : ℕ) (label ks : List ℕ) (rs : List Row) (r : Row) (u : ℕ) (ke
         (λ q. sym (g .same y) ∙ ap (stored kk) (sym (at ∙ eqb-true (r .key) y q)) ∙ at-stored K kk (g .fits) (u - 1) end-lt))
 
     same-tallies : {w : ℕ} → w ≡ countedBy note (getD counts (u - 1) 0) → (i : ℕ) → i < u
-        → getD (set counts (u - 1) w) i 0 ≡ tallyRows K label (getD kk i 0) (rs ++ (r ∷ [])) 0
+        → getD (set counts (u - 1) w) i 0 ≡ tallyRows rule K label (getD kk i 0) (rs ++ (r ∷ [])) 0
     same-tallies {w} ew i b =
         ⊎-elim
         (λ s.
         let z : i ≡ u - 1 = eqb-true i (u - 1) s in
         rw z
         (getD-set-same counts (u - 1) w 0 (omega arith) ∙ ew ∙ counts-note (getD counts (u - 1) 0)
-        ∙ ap (countedBy (codeAt K label (r .number))) (g .tallied (u - 1) (omega arith))
-        ∙ sym (row-counted K label (getD kk (u - 1) 0) rs r 0 (sym at))))
+        ∙ ap (countedBy (codeAt rule K label (r .number))) (g .tallied (u - 1) (omega arith))
+        ∙ sym (row-counted rule K label (getD kk (u - 1) 0) rs r 0 (sym at))))
         (λ s.
         let n : i ≡ u - 1 → ⊥ = eqb-false i (u - 1) s in
         getD-set-other counts (u - 1) i w 0 n ∙ g .tallied i b
-        ∙ sym (row-passed K label (getD kk i 0) rs r 0
+        ∙ sym (row-passed rule K label (getD kk i 0) rs r 0
         (λ q. n (key-inj K kk (g .fits) i (u - 1) (omega (arith, g .number)) end-lt (sym q ∙ sym at)))))
         (true-or-false (eqb i (u - 1)))
 
     pub grouped-same : {w : ℕ} → w ≡ countedBy note (getD counts (u - 1) 0)
-        → Grouped K label ks (rs ++ (r ∷ [])) u keys places (set counts (u - 1) w)
+        → Grouped rule K label ks (rs ++ (r ∷ [])) u keys places (set counts (u - 1) w)
     grouped-same ew = record {
       number = g .number;
       fits = g .fits;
@@ -96,21 +97,21 @@ module _ (K : ℕ) (label ks : List ℕ) (rs : List Row) (r : Row) (u : ℕ) (ke
     new = above-new K kk (r .key) (g .fits) above
 
     new-tallies : {w : ℕ} → w ≡ countedBy note 0 → (i : ℕ) → i < u + 1
-        → getD (set counts u w) i 0 ≡ tallyRows K label (getD all i 0) (rs ++ (r ∷ [])) 0
+        → getD (set counts u w) i 0 ≡ tallyRows rule K label (getD all i 0) (rs ++ (r ∷ [])) 0
     new-tallies {w} ew =
-        set-more counts (λ j. tallyRows K label (getD all j 0) (rs ++ (r ∷ [])) 0) u w lc
+        set-more counts (λ j. tallyRows rule K label (getD all j 0) (rs ++ (r ∷ [])) 0) u w lc
         (λ i b.
         g .tallied i b
         ∙ sym (rw (kept-key i b)
-        (row-passed K label (getD kk i 0) rs r 0
+        (row-passed rule K label (getD kk i 0) rs r 0
         (λ q. never (stored kk (getD kk i 0)) (at-stored K kk (g .fits) i (omega (arith, g .number))) (rw q at new)))))
         (ew ∙ counts-note 0
         ∙ sym (rw new-key
-        (row-counted K label (r .key) rs r 0 refl
-        ∙ ap (countedBy (codeAt K label (r .number))) (tally-none K label (r .key) rs 0 (sym (g .same (r .key)) ∙ new)))))
+        (row-counted rule K label (r .key) rs r 0 refl
+        ∙ ap (countedBy (codeAt rule K label (r .number))) (tally-none rule K label (r .key) rs 0 (sym (g .same (r .key)) ∙ new)))))
 
     pub grouped-new : {p w : ℕ} → p ≡ rank ks (r .key) → w ≡ countedBy note 0
-        → Grouped K label ks (rs ++ (r ∷ [])) (u + 1) (putKey keys u (r .key)) (set places u p) (set counts u w)
+        → Grouped rule K label ks (rs ++ (r ∷ [])) (u + 1) (putKey keys u (r .key)) (set places u p) (set counts u w)
     grouped-new {p} ep ew = record {
       number = rw (all-is, length-append) (omega (arith, g .number));
       fits = rw all-is (above-fit K kk (r .key) (g .fits) above below canonical);

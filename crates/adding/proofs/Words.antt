@@ -1,116 +1,90 @@
 -- What the definition of adding leaves of each stored k-mer: its word with its windows counted. Assumes nothing.
 use mathlib.Core.Path.{_≡_, refl, sym, ap, _∙_}
-use mathlib.Core.Bool.{Bool, true, false, cond}
+use mathlib.Core.Bool.{true, cond}
 use mathlib.Core.Logic.{inr}
 use mathlib.Core.List.{List}
-use Prim.Native.Nat.{ℕ, zero, suc, _≤_, _<_}
+use Prim.Native.Nat.{ℕ, zero, suc, _<_}
 use native.Mathlib.Decide.{ℕ-discrete}
 use native.Mathlib.Omega.{arith}
 use lib.Dec.{eqb}
 use lib.ListN.{length, getD, set}
 use lib.Seq.{getD-set-same, getD-set-other}
 use borrow.Author.Tests.{eq-eqb, ne-eqb}
-use Rattle.lemmas.proofs.Tests.{never, or-first}
 use Rattle.kmer.proofs.Windows.{Bases}
 use Rattle.state.specs.Counted.{fourBits}
-use Rattle.graph.specs.Table.{Table, rank, stored, store}
-use Rattle.graph.specs.Sightings.{sameCanonical, windows, sightingsAt, sightings}
+use Rattle.graph.specs.Table.{Table, rank, stored}
+use Rattle.graph.specs.Sightings.{Rule, windows, sightingsAt, sightings}
 use Rattle.graph.specs.Adding.{storeWindows, sightAll, added}
 use Rattle.graph.proofs.Rank.{stored-lt, same-rank}
-use Rattle.graph.proofs.Store.{Sound, store-other, store-counts, store-no-counts}
+use Rattle.graph.proofs.Store.{Sound}
 use Rattle.graph.proofs.Sight.{wordOf}
+use Rattle.graph.proofs.AnyOrder.{windows-word}
 use Rattle.graph.proofs.Adding.{windows-there, windows-sound, all-keys, all-length, all-append}
-use Rattle.adding.specs.Batch.{kmerAt, codeAt, countedBy, hasKey, tally, newRows}
+use Rattle.adding.specs.Batch.{kmerAt, codeAt, countedBy, tally}
 use Rattle.adding.proofs.Sighting.{window-sighted}
-use Rattle.adding.proofs.Fresh.{rows-stored}
 
 -- ---- all windows counted
 
 -- A table with the sightings of the first windows counted.
-abbrev sighted : ℕ → List ℕ → Table → ℕ → Table
-sighted K label t o = sightAll fourBits t (sightings sameCanonical K label o)
+abbrev sighted : Rule → ℕ → List ℕ → Table → ℕ → Table
+sighted rule K label t o = sightAll fourBits t (sightings rule K label o)
 
-module _ (K : ℕ) (label : List ℕ) (t : Table) (v : Sound K t) (o : ℕ) (there : stored (t .keys) (kmerAt K label o) ≡ true) where
+module _ (rule : Rule) (K : ℕ) (label : List ℕ) (t : Table) (v : Sound K t) (o : ℕ) (there : stored (t .keys) (kmerAt K label o) ≡ true) where
   abbrev words : List ℕ
-  words = sighted K label t o .counts
+  words = sighted rule K label t o .counts
 
   abbrev place : ℕ
   place = rank (t .keys) (kmerAt K label o)
 
   place-lt : place < length words
   place-lt =
-      omega (arith, all-length fourBits t (sightings sameCanonical K label o), v .sizes, stored-lt (t .keys) (kmerAt K label o) there)
+      omega (arith, all-length fourBits t (sightings rule K label o), v .sizes, stored-lt (t .keys) (kmerAt K label o) there)
 
   -- One window more changes one word.
-  next-words : sighted K label t (suc o) .counts ≡ set words place (countedBy (codeAt K label o) (getD words place 0))
+  next-words : sighted rule K label t (suc o) .counts ≡ set words place (countedBy (codeAt rule K label o) (getD words place 0))
   unfolding sightings
   next-words =
-      let e = all-keys fourBits t (sightings sameCanonical K label o) in
-      ap (λ (u : Table). u .counts) (all-append fourBits t (sightings sameCanonical K label o) (sightingsAt sameCanonical K label o))
-      ∙ window-sighted K label o (sighted K label t o) (rw e place-lt)
+      let e = all-keys fourBits t (sightings rule K label o) in
+      ap (λ (u : Table). u .counts) (all-append fourBits t (sightings rule K label o) (sightingsAt rule K label o))
+      ∙ window-sighted rule K label o (sighted rule K label t o) (rw e place-lt)
       ∙ rw e
 
   next-word : (y : ℕ) → stored (t .keys) y ≡ true
-      → getD (sighted K label t (suc o) .counts) (rank (t .keys) y) 0
-      ≡ (let w = getD words (rank (t .keys) y) 0 in cond (eqb (kmerAt K label o) y) (countedBy (codeAt K label o) w) w)
+      → getD (sighted rule K label t (suc o) .counts) (rank (t .keys) y) 0
+      ≡ (let w = getD words (rank (t .keys) y) 0 in cond (eqb (kmerAt K label o) y) (countedBy (codeAt rule K label o) w) w)
   next-word y s = ap (λ (l : List ℕ). getD l (rank (t .keys) y) 0) next-words ∙ go (ℕ-discrete (kmerAt K label o) y)
     where
       go : Dec (kmerAt K label o ≡ y)
-          → getD (set words place (countedBy (codeAt K label o) (getD words place 0))) (rank (t .keys) y) 0
-          ≡ (let w = getD words (rank (t .keys) y) 0 in cond (eqb (kmerAt K label o) y) (countedBy (codeAt K label o) w) w)
-      go (yes e) = rw (eq-eqb (kmerAt K label o) y e, ← e) (getD-set-same words place (countedBy (codeAt K label o) (getD words place 0)) 0 place-lt)
+          → getD (set words place (countedBy (codeAt rule K label o) (getD words place 0))) (rank (t .keys) y) 0
+          ≡ (let w = getD words (rank (t .keys) y) 0 in cond (eqb (kmerAt K label o) y) (countedBy (codeAt rule K label o) w) w)
+      go (yes e) = rw (eq-eqb (kmerAt K label o) y e, ← e) (getD-set-same words place (countedBy (codeAt rule K label o) (getD words place 0)) 0 place-lt)
       go (no n) =
           rw (ne-eqb (kmerAt K label o) y n)
-          (getD-set-other words place (rank (t .keys) y) (countedBy (codeAt K label o) (getD words place 0)) 0
+          (getD-set-other words place (rank (t .keys) y) (countedBy (codeAt rule K label o) (getD words place 0)) 0
           (λ e. n (same-rank (t .keys) (kmerAt K label o) y there s (sym e))))
 
-module _ (K : ℕ) (label : List ℕ) (b : Bases label) where
+module _ (rule : Rule) (K : ℕ) (label : List ℕ) (b : Bases label) where
   sighted-word : (t : Table) → Sound K t → (m : ℕ)
       → ((i : ℕ) → i < m → stored (t .keys) (kmerAt K label i) ≡ true) → (y : ℕ) → stored (t .keys) y ≡ true
-      → getD (sighted K label t m .counts) (rank (t .keys) y) 0 ≡ tally K label y m (wordOf t y)
+      → getD (sighted rule K label t m .counts) (rank (t .keys) y) 0 ≡ tally rule K label y m (wordOf t y)
   unfolding tally sightings sightAll
   sighted-word t v zero there y s = refl
   sighted-word t v (suc o) there y s =
-      next-word K label t v o (there o (omega arith)) y s
-      ∙ ap (λ (w : ℕ). cond (eqb (kmerAt K label o) y) (countedBy (codeAt K label o) w) w)
+      next-word rule K label t v o (there o (omega arith)) y s
+      ∙ ap (λ (w : ℕ). cond (eqb (kmerAt K label o) y) (countedBy (codeAt rule K label o) w) w)
       (sighted-word t v o (λ i l. there i (omega arith)) y s)
 
-  -- ---- the windows stored
+  -- ---- and the windows stored
 
   module _ (t : Table) (v : Sound K t) where
-    -- A k-mer that was stored keeps its word, and a new one has none.
-    stored-word : (m : ℕ) → m ≤ windows K label → (y : ℕ) → stored (storeWindows K label t m .keys) y ≡ true
-        → wordOf (storeWindows K label t m) y ≡ cond (stored (t .keys) y) (wordOf t y) 0
-    unfolding storeWindows
-    stored-word zero h y s = rw s
-    stored-word (suc m) h y s = go (stored-word m (omega arith) y) (stored (u .keys) y) refl (ℕ-discrete x y)
-      where
-        u : Table
-        u = storeWindows K label t m
-
-        x : ℕ
-        x = kmerAt K label m
-
-        sizes : length (u .counts) ≡ length (u .keys)
-        sizes = windows-sound K label (inr b) t v m (omega arith) .sizes
-
-        go : (stored (u .keys) y ≡ true → wordOf u y ≡ cond (stored (t .keys) y) (wordOf t y) 0)
-            → (c : Bool) → stored (u .keys) y ≡ c → Dec (x ≡ y) → wordOf (store u x) y ≡ cond (stored (t .keys) y) (wordOf t y) 0
-        go ih true e d = store-counts u x sizes y e ∙ ih e
-        go ih false e (no n) = never (stored (store u x .keys) y) s (store-other u x y n ∙ e)
-        go ih false e (yes q) =
-            let old : stored (t .keys) y ≡ false =
-            or-first (stored (t .keys) y) (hasKey y (newRows K label (t .keys) m)) (sym (rows-stored K label (t .keys) y t refl m) ∙ e) in
-            rw (old, ← q) (store-no-counts u x sizes (ap (stored (u .keys)) q ∙ e))
-
-    pub added-word : (y : ℕ) → stored (added fourBits sameCanonical K label t .keys) y ≡ true
-        → wordOf (added fourBits sameCanonical K label t) y ≡ tally K label y (windows K label) (cond (stored (t .keys) y) (wordOf t y) 0)
+    pub added-word : (y : ℕ) → stored (added fourBits rule K label t .keys) y ≡ true
+        → wordOf (added fourBits rule K label t) y ≡ tally rule K label y (windows K label) (cond (stored (t .keys) y) (wordOf t y) 0)
     unfolding added
     added-word y s =
         let m : ℕ = windows K label in
         let u : Table = storeWindows K label t m in
-        let e : sighted K label u m .keys ≡ u .keys = all-keys fourBits u (sightings sameCanonical K label m) in
+        let e : sighted rule K label u m .keys ≡ u .keys = all-keys fourBits u (sightings rule K label m) in
         let r : stored (u .keys) y ≡ true = rw e at s in
         rw e
         (sighted-word u (windows-sound K label (inr b) t v m (omega arith)) m (windows-there K label t m) y r
-        ∙ ap (tally K label y m) (stored-word m (omega arith) y r))
+        ∙ ap (tally rule K label y m) (windows-word K label (inr b) t v m (omega arith) y r))

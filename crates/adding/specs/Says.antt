@@ -1,15 +1,16 @@
 -- What adding answers in document 01's numbers, and what its parts say. Assumes nothing.
 use Prim.Native.Nat.{ℕ, suc, _+_, _/_, _%_, _^_, _≤_, _<_}
 use mathlib.Core.Path.{_≡_}
-use mathlib.Core.Bool.{true}
+use mathlib.Core.Bool.{Bool, true, false, cond, Bool·beq}
 use mathlib.Core.List.{List, [], _∷_}
+use lib.Dec.{eqb}
 use lib.ListN.{length, getD}
 use Rattle.dna.specs.Answer.{Answer, gives, refuses}
 use Rattle.kmer.specs.Kmer.{okK, canon, isCanon}
 use Rattle.kmer.specs.Says.{valueOf}
 use Rattle.kmer.proofs.Windows.{Bases}
 use Rattle.graph.specs.Table.{keysOf, fit, fitFrom, rank}
-use Rattle.graph.specs.Sightings.{window, windows}
+use Rattle.graph.specs.Sightings.{Rule, sameCanonical, reversed, window, windows}
 use Rattle.graph.specs.Adding.{Edges, Added}
 use Rattle.graph.specs.Several.{Several}
 use Rattle.table.specs.declared.JoinAnswer.{JoinAnswer}
@@ -19,10 +20,17 @@ use Rattle.adding.specs.Batch.{codeAt}
 use Rattle.adding.specs.declared.Bad.{Bad}
 use Rattle.adding.specs.declared.Bad.the-variants as bad
 use Rattle.adding.specs.declared.Seen.{Seen}
+use Rattle.adding.specs.declared.Mode.{Mode}
+use Rattle.adding.specs.declared.Mode.the-variants as mode
 use Rattle.adding.specs.declared.AddAnswer.{AddAnswer}
 use Rattle.adding.specs.declared.AddAnswer.the-variants as add
 use Rattle.adding.specs.declared.LabelsAnswer.{LabelsAnswer}
 use Rattle.adding.specs.declared.LabelsAnswer.the-variants as labels
+
+-- The rule for equal neighbours that a mode names: document 01's, and document 02's.
+abbrev pub ruleOf : Mode → Rule
+ruleOf mode.SameCanonical = sameCanonical
+ruleOf mode.Reversed = reversed
 
 -- The edges and the number stored afterwards, or a refusal.
 abbrev pub addAnswer : AddAnswer → Answer Edges
@@ -94,10 +102,16 @@ pub record Sees (K : ℕ) (label : List ℕ) (i : ℕ) (r : Seen) : Type 0 where
   pub kmer : valueOf (r .kmer) ≡ canon K (window K label i)
   pub straight : r .straight ≡ isCanon K (window K label i)
 
--- x is the canonical k-mer of the window before window i, where there is one, and y that of window i.
-pub record Follows (K : ℕ) (label : List ℕ) (i x y : ℕ) : Type 0 where
-  pub previous : (j : ℕ) → i ≡ suc j → x ≡ canon K (window K label j)
-  pub here : y ≡ canon K (window K label i)
+-- A window's predecessor is left uncounted, by what is seen of the window before and of it: both have one k-mer, and by document
+-- 02's rule they show it on different strands.
+abbrev pub skipped : Mode → Seen → Seen → Bool
+skipped mode.SameCanonical x y = eqb (valueOf (x .kmer)) (valueOf (y .kmer))
+skipped mode.Reversed x y = cond (Bool·beq (x .straight) (y .straight)) false (eqb (valueOf (x .kmer)) (valueOf (y .kmer)))
+
+-- The window before window i, where there is one, and window i.
+pub record Follows (K : ℕ) (label : List ℕ) (i : ℕ) (x y : Seen) : Type 0 where
+  pub previous : (j : ℕ) → i ≡ suc j → Sees K label j x
+  pub here : Sees K label i y
 
 -- A note's two neighbours, each a base or E.
 pub record Coded (note : ℕ) : Type 0 where
@@ -118,11 +132,11 @@ pub record Rowed (q : ℕ) (notes places offsets new-keys new-places new-counts 
   pub coded : (i : ℕ) → i < q → Coded (getD notes (getD offsets i 0) 0)
 
 -- The rows are of windows of a label and in the order of their k-mers, each with its window's note and the place of its k-mer.
-pub record Listed (K : ℕ) (label ks : List ℕ) (q : ℕ) (notes places offsets new-keys : List ℕ) : Type 0 where
+pub record Listed (rule : Rule) (K : ℕ) (label ks : List ℕ) (q : ℕ) (notes places offsets new-keys : List ℕ) : Type 0 where
   pub ascends : (i j : ℕ) → i ≤ j → j < q → keyAt new-keys i ≤ keyAt new-keys j
   pub below : (i : ℕ) → i < q → keyAt new-keys i < 4 ^ K
   pub canonical : (i : ℕ) → i < q → isCanon K (keyAt new-keys i) ≡ true
-  pub noted : (i : ℕ) → i < q → getD notes (getD offsets i 0) 0 ≡ codeAt K label (getD offsets i 0) + 64
+  pub noted : (i : ℕ) → i < q → getD notes (getD offsets i 0) 0 ≡ codeAt rule K label (getD offsets i 0) + 64
   pub placed : (i : ℕ) → i < q → getD places (getD offsets i 0) 0 ≡ rank ks (keyAt new-keys i)
 
 -- Slices with m notes and places, where a note below 64 has two neighbours and the place of a counter.

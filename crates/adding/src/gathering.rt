@@ -7,7 +7,9 @@ ghost use Rattle.kmer.specs.Kmer.{low, high};
 ghost use Rattle.graph.specs.Table.{keysOf};
 ghost use Rattle.graph.specs.Sightings.{windows};
 ghost use Rattle.adding.specs.Batch.{Gathers};
-ghost use Rattle.adding.specs.Says.{Spare};
+ghost use Rattle.adding.specs.Says.{ruleOf, Spare};
+use super::Mode;
+use super::Seen;
 use super::windows;
 use kmer::Kmer;
 use table::Found;
@@ -37,6 +39,7 @@ fn cells_for(n: usize, windows: usize) -> usize
 
 // Window by window, by a directory of whatever content.
 fn look_up(
+    mode: Mode,
     k: usize,
     label: &[u8],
     n: usize,
@@ -48,21 +51,24 @@ fn look_up(
     offsets: &mut [u32],
 ) -> usize
     requires { ⌜ Spare k (now label) n (now keys) (now notes) (now places) (now «new_keys») (now offsets) ⌝ }
-    ensures { λ r. ⌜ Gathers k (now (label .entry)) (keysOf n (now (keys .entry))) (windows k (now (label .entry))) r (now (notes .exit)) (now (places .exit)) (now («new_keys» .exit)) (now (offsets .exit)) ⌝ }
+    ensures { λ r. ⌜ Gathers (ruleOf mode) k (now (label .entry)) (keysOf n (now (keys .entry))) (windows k (now (label .entry))) r (now (notes .exit)) (now (places .exit)) (now («new_keys» .exit)) (now (offsets .exit)) ⌝ }
 {
     let mut new = 0;
-    let mut previous = Kmer::zero();
+    let mut previous = Seen {
+        kmer: Kmer::zero(),
+        straight: true,
+    };
     let mut o = 0;
     let end = label.len() - k + 1;
     while o < end {
         let seen = windows::see(k, label, o);
-        let code = windows::code_of(k, label, o, previous, seen);
+        let code = windows::code_of(mode, k, label, o, previous, seen);
         let x = seen.kmer;
         match directory::find(k, n, keys, directory, x) {
             Found::At(i) => {
                 notes[o] = code;
                 places[o] = i as u32;
-                previous = x;
+                previous = seen;
                 o += 1;
             }
             Found::Gap(i) => {
@@ -71,7 +77,7 @@ fn look_up(
                 put_key(new_keys, new, x);
                 offsets[new] = o as u32;
                 new += 1;
-                previous = x;
+                previous = seen;
                 o += 1;
             }
         }
@@ -81,6 +87,7 @@ fn look_up(
 
 // The directory is made first.
 fn look_up_by(
+    mode: Mode,
     k: usize,
     label: &[u8],
     n: usize,
@@ -92,10 +99,11 @@ fn look_up_by(
     offsets: &mut [u32],
 ) -> usize
     requires { ⌜ Spare k (now label) n (now keys) (now notes) (now places) (now «new_keys») (now offsets) ⌝ }
-    ensures { λ r. ⌜ Gathers k (now (label .entry)) (keysOf n (now (keys .entry))) (windows k (now (label .entry))) r (now (notes .exit)) (now (places .exit)) (now («new_keys» .exit)) (now (offsets .exit)) ⌝ }
+    ensures { λ r. ⌜ Gathers (ruleOf mode) k (now (label .entry)) (keysOf n (now (keys .entry))) (windows k (now (label .entry))) r (now (notes .exit)) (now (places .exit)) (now («new_keys» .exit)) (now (offsets .exit)) ⌝ }
 {
     directory::make(k, n, keys, directory);
     look_up(
+        mode,
         k,
         label,
         n,
@@ -110,6 +118,7 @@ fn look_up_by(
 
 // Of each window what is noted and the place of its k-mer; the k-mers and offsets of the new ones, and how many they are.
 pub(crate) fn gather(
+    mode: Mode,
     k: usize,
     label: &[u8],
     n: usize,
@@ -120,11 +129,12 @@ pub(crate) fn gather(
     offsets: &mut [u32],
 ) -> usize
     requires { ⌜ Spare k (now label) n (now keys) (now notes) (now places) (now «new_keys») (now offsets) ⌝ }
-    ensures { λ r. ⌜ Gathers k (now (label .entry)) (keysOf n (now (keys .entry))) (windows k (now (label .entry))) r (now (notes .exit)) (now (places .exit)) (now («new_keys» .exit)) (now (offsets .exit)) ⌝ }
+    ensures { λ r. ⌜ Gathers (ruleOf mode) k (now (label .entry)) (keysOf n (now (keys .entry))) (windows k (now (label .entry))) r (now (notes .exit)) (now (places .exit)) (now («new_keys» .exit)) (now (offsets .exit)) ⌝ }
 {
     let mut directory = [0u32; 4097];
     let cells = cells_for(n, label.len() - k + 1);
     look_up_by(
+        mode,
         k,
         label,
         n,

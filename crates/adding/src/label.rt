@@ -6,12 +6,13 @@ ghost use lib.ListN.{length};
 ghost use Rattle.dna.specs.Letters.{firstBad};
 ghost use Rattle.state.specs.Counted.{fourBits};
 ghost use Rattle.graph.specs.Table.{keysOf};
-ghost use Rattle.graph.specs.Sightings.{sameCanonical, windows};
+ghost use Rattle.graph.specs.Sightings.{windows};
 ghost use Rattle.graph.specs.Adding.{addLabel, addBases};
 ghost use Rattle.adding.specs.Batch.{Looked, Grouped, sortedNew};
-ghost use Rattle.adding.specs.Says.{Addable, Spare, Ready, Roomy, Adds, joinedAnswer, placeIn};
+ghost use Rattle.adding.specs.Says.{ruleOf, Addable, Spare, Ready, Roomy, Adds, joinedAnswer, placeIn};
 use super::AddAnswer;
 use super::Bad;
+use super::Mode;
 use super::counting;
 use super::gathering;
 use table::FitAnswer;
@@ -34,6 +35,7 @@ fn first_bad(s: &[u8]) -> Bad
 // The new k-mers of a label made vertices by themselves, sorted and counted, and how many they are; of each window what is noted
 // and the place of its k-mer.
 fn make_vertices(
+    mode: Mode,
     k: usize,
     label: &[u8],
     n: usize,
@@ -46,9 +48,9 @@ fn make_vertices(
     new_counts: &mut [u32],
 ) -> usize
     requires { ⌜ Spare k (now label) n (now keys) (now notes) (now places) (now «new_keys») (now offsets) × (windows k (now label) ≤ length (now «new_places»)) × (windows k (now label) ≤ length (now «new_counts»)) ⌝ }
-    ensures { λ r. ⌜ Looked k (now (label .entry)) (keysOf n (now (keys .entry))) (windows k (now (label .entry))) (now (notes .exit)) (now (places .exit)) × Grouped k (now (label .entry)) (keysOf n (now (keys .entry))) (sortedNew k (now (label .entry)) (keysOf n (now (keys .entry)))) r (now («new_keys» .exit)) (now («new_places» .exit)) (now («new_counts» .exit)) ⌝ }
+    ensures { λ r. ⌜ Looked (ruleOf mode) k (now (label .entry)) (keysOf n (now (keys .entry))) (windows k (now (label .entry))) (now (notes .exit)) (now (places .exit)) × Grouped (ruleOf mode) k (now (label .entry)) (keysOf n (now (keys .entry))) (sortedNew k (now (label .entry)) (keysOf n (now (keys .entry)))) r (now («new_keys» .exit)) (now («new_places» .exit)) (now («new_counts» .exit)) ⌝ }
 {
-    let rows = gathering::gather(k, label, n, keys, notes, places, new_keys, offsets);
+    let rows = gathering::gather(mode, k, label, n, keys, notes, places, new_keys, offsets);
     let _sorted = keysort::sort_rows(k, new_keys, offsets, rows);
     counting::group(
         rows,
@@ -74,6 +76,7 @@ fn joined_answer(edges: usize, done: JoinAnswer) -> AddAnswer
 // A label of bases: if its new vertices have room, the windows of the others are counted where they stand, and the new ones are
 // put in all at once.
 fn add_with(
+    mode: Mode,
     k: usize,
     n: usize,
     keys: &mut [u64],
@@ -87,10 +90,11 @@ fn add_with(
     new_counts: &mut [u32],
 ) -> AddAnswer
     requires { ⌜ Roomy k (now label) n (now keys) (now counts) (now notes) (now places) (now offsets) (now «new_keys») (now «new_places») (now «new_counts») ⌝ }
-    ensures { λ r. ⌜ Adds r (now (keys .exit)) (now (counts .exit)) (addBases fourBits sameCanonical k n (now (keys .entry)) (now (counts .entry)) (now (label .entry)) []) ⌝ }
+    ensures { λ r. ⌜ Adds r (now (keys .exit)) (now (counts .exit)) (addBases fourBits (ruleOf mode) k n (now (keys .entry)) (now (counts .entry)) (now (label .entry)) []) ⌝ }
 {
     let edges = label.len() - k;
     let new = make_vertices(
+        mode,
         k,
         label,
         n,
@@ -111,9 +115,16 @@ fn add_with(
 }
 
 // At most 512 windows: room for more would take longer to clear than to use.
-fn add_short(k: usize, n: usize, keys: &mut [u64], counts: &mut [u32], label: &[u8]) -> AddAnswer
+fn add_short(
+    mode: Mode,
+    k: usize,
+    n: usize,
+    keys: &mut [u64],
+    counts: &mut [u32],
+    label: &[u8],
+) -> AddAnswer
     requires { ⌜ Addable k (now label) n (now keys) (now counts) × (windows k (now label) ≤ 512) ⌝ }
-    ensures { λ r. ⌜ Adds r (now (keys .exit)) (now (counts .exit)) (addBases fourBits sameCanonical k n (now (keys .entry)) (now (counts .entry)) (now (label .entry)) []) ⌝ }
+    ensures { λ r. ⌜ Adds r (now (keys .exit)) (now (counts .exit)) (addBases fourBits (ruleOf mode) k n (now (keys .entry)) (now (counts .entry)) (now (label .entry)) []) ⌝ }
 {
     let mut notes = [0u8; 512];
     let mut places = [0u32; 512];
@@ -122,6 +133,7 @@ fn add_short(k: usize, n: usize, keys: &mut [u64], counts: &mut [u32], label: &[
     let mut new_places = [0u32; 512];
     let mut new_counts = [0u32; 512];
     add_with(
+        mode,
         k,
         n,
         keys,
@@ -136,9 +148,16 @@ fn add_short(k: usize, n: usize, keys: &mut [u64], counts: &mut [u32], label: &[
     )
 }
 
-fn add_long(k: usize, n: usize, keys: &mut [u64], counts: &mut [u32], label: &[u8]) -> AddAnswer
+fn add_long(
+    mode: Mode,
+    k: usize,
+    n: usize,
+    keys: &mut [u64],
+    counts: &mut [u32],
+    label: &[u8],
+) -> AddAnswer
     requires { ⌜ Addable k (now label) n (now keys) (now counts) ⌝ }
-    ensures { λ r. ⌜ Adds r (now (keys .exit)) (now (counts .exit)) (addBases fourBits sameCanonical k n (now (keys .entry)) (now (counts .entry)) (now (label .entry)) []) ⌝ }
+    ensures { λ r. ⌜ Adds r (now (keys .exit)) (now (counts .exit)) (addBases fourBits (ruleOf mode) k n (now (keys .entry)) (now (counts .entry)) (now (label .entry)) []) ⌝ }
 {
     let mut notes = [0u8; 4096];
     let mut places = [0u32; 4096];
@@ -147,6 +166,7 @@ fn add_long(k: usize, n: usize, keys: &mut [u64], counts: &mut [u32], label: &[u
     let mut new_places = [0u32; 4096];
     let mut new_counts = [0u32; 4096];
     add_with(
+        mode,
         k,
         n,
         keys,
@@ -161,18 +181,26 @@ fn add_long(k: usize, n: usize, keys: &mut [u64], counts: &mut [u32], label: &[u
     )
 }
 
-fn add_bases(k: usize, n: usize, keys: &mut [u64], counts: &mut [u32], label: &[u8]) -> AddAnswer
+fn add_bases(
+    mode: Mode,
+    k: usize,
+    n: usize,
+    keys: &mut [u64],
+    counts: &mut [u32],
+    label: &[u8],
+) -> AddAnswer
     requires { ⌜ Addable k (now label) n (now keys) (now counts) ⌝ }
-    ensures { λ r. ⌜ Adds r (now (keys .exit)) (now (counts .exit)) (addBases fourBits sameCanonical k n (now (keys .entry)) (now (counts .entry)) (now (label .entry)) []) ⌝ }
+    ensures { λ r. ⌜ Adds r (now (keys .exit)) (now (counts .exit)) (addBases fourBits (ruleOf mode) k n (now (keys .entry)) (now (counts .entry)) (now (label .entry)) []) ⌝ }
 {
     if label.len() - k < 512 {
-        return add_short(k, n, keys, counts, label);
+        return add_short(mode, k, n, keys, counts, label);
     }
-    add_long(k, n, keys, counts, label)
+    add_long(mode, k, n, keys, counts, label)
 }
 
 // The label tested whole, then added, to a table that is known to be fit: refusal 4, a label shorter than K, 3, 6.
 pub(crate) fn add_to_fit(
+    mode: Mode,
     k: usize,
     n: usize,
     keys: &mut [u64],
@@ -180,7 +208,7 @@ pub(crate) fn add_to_fit(
     label: &[u8],
 ) -> AddAnswer
     requires { ⌜ Ready k n (now keys) (now counts) ⌝ }
-    ensures { λ r. ⌜ Adds r (now (keys .exit)) (now (counts .exit)) (addLabel fourBits sameCanonical k n (now (keys .entry)) (now (counts .entry)) (now (label .entry))) ⌝ }
+    ensures { λ r. ⌜ Adds r (now (keys .exit)) (now (counts .exit)) (addLabel fourBits (ruleOf mode) k n (now (keys .entry)) (now (counts .entry)) (now (label .entry))) ⌝ }
 {
     if 4096 < label.len() {
         return AddAnswer::TooLong(label.len());
@@ -193,23 +221,24 @@ pub(crate) fn add_to_fit(
     }
     match first_bad(label) {
         Bad::At { place, byte } => AddAnswer::InvalidBase { place, byte },
-        Bad::Nowhere => add_bases(k, n, keys, counts, label),
+        Bad::Nowhere => add_bases(mode, k, n, keys, counts, label),
     }
 }
 
 // Refusals 1 and 5 before those of the label.
 pub fn add_label(
+    mode: Mode,
     k: usize,
     n: usize,
     keys: &mut [u64],
     counts: &mut [u32],
     label: &[u8],
 ) -> AddAnswer
-    ensures { λ r. ⌜ Adds r (now (keys .exit)) (now (counts .exit)) (addLabel fourBits sameCanonical k n (now (keys .entry)) (now (counts .entry)) (now (label .entry))) ⌝ }
+    ensures { λ r. ⌜ Adds r (now (keys .exit)) (now (counts .exit)) (addLabel fourBits (ruleOf mode) k n (now (keys .entry)) (now (counts .entry)) (now (label .entry))) ⌝ }
 {
     match table::fit(k, n, keys, counts) {
         FitAnswer::UnsupportedK(k) => AddAnswer::UnsupportedK(k),
         FitAnswer::Unfit => AddAnswer::Unfit,
-        FitAnswer::Fit => add_to_fit(k, n, keys, counts, label),
+        FitAnswer::Fit => add_to_fit(mode, k, n, keys, counts, label),
     }
 }

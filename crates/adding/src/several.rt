@@ -2,18 +2,19 @@
 ghost use mathlib.Core.Path.{_≡_};
 ghost use mathlib.Core.Bool.{true};
 ghost use Rattle.state.specs.Counted.{fourBits};
-ghost use Rattle.graph.specs.Sightings.{sameCanonical};
 ghost use Rattle.graph.specs.Adding.{addLabel};
 ghost use Rattle.graph.specs.Entries.{within, listed};
 ghost use Rattle.graph.specs.Several.{untried, addEach, addLabels};
-ghost use Rattle.adding.specs.Says.{Ready, Adds, AddsLabels};
+ghost use Rattle.adding.specs.Says.{ruleOf, Ready, Adds, AddsLabels};
 use super::AddAnswer;
 use super::LabelsAnswer;
+use super::Mode;
 use super::label;
 
 // A label added to a table that is known to be fit, or not known yet.
 fn add_next(
     is_fit: bool,
+    mode: Mode,
     k: usize,
     n: usize,
     keys: &mut [u64],
@@ -21,16 +22,17 @@ fn add_next(
     label: &[u8],
 ) -> AddAnswer
     requires { ⌜ («is_fit» ≡ true → Ready k n (now keys) (now counts)) ⌝ }
-    ensures { λ r. ⌜ Adds r (now (keys .exit)) (now (counts .exit)) (addLabel fourBits sameCanonical k n (now (keys .entry)) (now (counts .entry)) (now (label .entry))) ⌝ }
+    ensures { λ r. ⌜ Adds r (now (keys .exit)) (now (counts .exit)) (addLabel fourBits (ruleOf mode) k n (now (keys .entry)) (now (counts .entry)) (now (label .entry))) ⌝ }
 {
     if is_fit {
-        return label::add_to_fit(k, n, keys, counts, label);
+        return label::add_to_fit(mode, k, n, keys, counts, label);
     }
-    label::add_label(k, n, keys, counts, label)
+    label::add_label(mode, k, n, keys, counts, label)
 }
 
 // The labels of an index that lies within its text. A label that was added leaves a fit table.
 fn add_each(
+    mode: Mode,
     k: usize,
     n: usize,
     keys: &mut [u64],
@@ -41,7 +43,7 @@ fn add_each(
     count: usize,
 ) -> LabelsAnswer
     requires { ⌜ within (now text) count (now starts) (now lengths) ≡ true ⌝ }
-    ensures { λ r. ⌜ AddsLabels n r (now (keys .exit)) (now (counts .exit)) (addEach fourBits sameCanonical k (untried n (now (keys .entry)) (now (counts .entry))) (listed count (now (text .entry)) (now (starts .entry)) (now (lengths .entry)))) ⌝ }
+    ensures { λ r. ⌜ AddsLabels n r (now (keys .exit)) (now (counts .exit)) (addEach fourBits (ruleOf mode) k (untried n (now (keys .entry)) (now (counts .entry))) (listed count (now (text .entry)) (now (starts .entry)) (now (lengths .entry)))) ⌝ }
 {
     let mut edges = 0;
     let mut stored = n;
@@ -49,7 +51,7 @@ fn add_each(
     while i < count {
         let start = starts[i] as usize;
         let end = start + lengths[i] as usize;
-        let answer = add_next(0 < i, k, stored, keys, counts, &text[start..end]);
+        let answer = add_next(0 < i, mode, k, stored, keys, counts, &text[start..end]);
         match answer {
             AddAnswer::Added {
                 edges: e,
@@ -77,6 +79,7 @@ fn add_each(
 
 // The labels of an index's first entries, in order, until one is refused.
 pub fn add_labels(
+    mode: Mode,
     k: usize,
     n: usize,
     keys: &mut [u64],
@@ -86,10 +89,10 @@ pub fn add_labels(
     lengths: &[u32],
     count: usize,
 ) -> LabelsAnswer
-    ensures { λ r. ⌜ AddsLabels n r (now (keys .exit)) (now (counts .exit)) (addLabels fourBits sameCanonical k n (now (keys .entry)) (now (counts .entry)) (now (text .entry)) (now (starts .entry)) (now (lengths .entry)) count) ⌝ }
+    ensures { λ r. ⌜ AddsLabels n r (now (keys .exit)) (now (counts .exit)) (addLabels fourBits (ruleOf mode) k n (now (keys .entry)) (now (counts .entry)) (now (text .entry)) (now (starts .entry)) (now (lengths .entry)) count) ⌝ }
 {
     if !fasta::lie_within(text, starts, lengths, count) {
         return LabelsAnswer::OutOfText;
     }
-    add_each(k, n, keys, counts, text, starts, lengths, count)
+    add_each(mode, k, n, keys, counts, text, starts, lengths, count)
 }

@@ -3,10 +3,10 @@ ghost use mathlib.Core.Path.{_≡_};
 ghost use Prim.Native.Nat.{_+_, _≤_};
 ghost use lib.ListN.{length};
 ghost use Rattle.dna.specs.Letters.{complement};
-ghost use Rattle.kmer.specs.Says.{valueOf};
-ghost use Rattle.graph.specs.Sightings.{sameCanonical, predecessor, successor};
+ghost use Rattle.graph.specs.Sightings.{predecessor, successor};
 ghost use Rattle.adding.specs.Batch.{codeAt};
-ghost use Rattle.adding.specs.Says.{Given, Sees, Follows};
+ghost use Rattle.adding.specs.Says.{ruleOf, skipped, Given, Sees, Follows};
+use super::Mode;
 use super::Seen;
 use kmer::Kmer;
 
@@ -24,15 +24,31 @@ pub(crate) fn see(k: usize, label: &[u8], o: usize) -> Seen
     }
 }
 
-// The base before window o, whose canonical k-mer is here; E where there is none, or where the window before has the same.
-fn before_of(k: usize, label: &[u8], o: usize, previous: Kmer, here: Kmer) -> u8
-    requires { ⌜ Given k (now label) × (o + k ≤ length (now label)) × Follows k (now label) o (valueOf previous) (valueOf here) ⌝ }
-    ensures { λ r. ⌜ r ≡ predecessor sameCanonical k (now (label .entry)) o ⌝ }
+// A window's predecessor is left uncounted, by what is seen of it and of the window before.
+fn skips(mode: Mode, previous: Seen, here: Seen) -> bool
+    ensures { λ r. ⌜ r ≡ skipped mode previous here ⌝ }
+{
+    let same = previous.kmer.is_same(here.kmer);
+    match mode {
+        Mode::SameCanonical => same,
+        Mode::Reversed => {
+            if previous.straight == here.straight {
+                return false;
+            }
+            same
+        }
+    }
+}
+
+// The base before window o; E where there is none, or where it is left uncounted.
+fn before_of(mode: Mode, k: usize, label: &[u8], o: usize, previous: Seen, here: Seen) -> u8
+    requires { ⌜ Given k (now label) × (o + k ≤ length (now label)) × Follows k (now label) o previous here ⌝ }
+    ensures { λ r. ⌜ r ≡ predecessor (ruleOf mode) k (now (label .entry)) o ⌝ }
 {
     if o == 0 {
         return 5;
     }
-    if previous.is_same(here) {
+    if skips(mode, previous, here) {
         return 5;
     }
     dna::valid_ascii_base_bits(label[o - 1])
@@ -58,11 +74,18 @@ fn other(code: u8) -> u8
 
 // Window o's neighbours in one number: seen canonical, its predecessor on Front and its successor on Back; otherwise the
 // successor's complement on Front and the predecessor's complement on Back.
-pub(crate) fn code_of(k: usize, label: &[u8], o: usize, previous: Kmer, seen: Seen) -> u8
-    requires { ⌜ Given k (now label) × (o + k ≤ length (now label)) × Sees k (now label) o seen × Follows k (now label) o (valueOf previous) (valueOf (seen .kmer)) ⌝ }
-    ensures { λ r. ⌜ r ≡ codeAt k (now (label .entry)) o ⌝ }
+pub(crate) fn code_of(
+    mode: Mode,
+    k: usize,
+    label: &[u8],
+    o: usize,
+    previous: Seen,
+    seen: Seen,
+) -> u8
+    requires { ⌜ Given k (now label) × (o + k ≤ length (now label)) × Follows k (now label) o previous seen ⌝ }
+    ensures { λ r. ⌜ r ≡ codeAt (ruleOf mode) k (now (label .entry)) o ⌝ }
 {
-    let before = before_of(k, label, o, previous, seen.kmer);
+    let before = before_of(mode, k, label, o, previous, seen);
     let after = after_of(k, label, o);
     if seen.straight {
         return before + 8 * after;

@@ -1,6 +1,7 @@
-// Adds labels to tables. Prints what each call answers and then every cell of the lent slices, those past the table too. The
-// file `stdout` beside this is written by oracle/adding_test.py, from document 01's rules alone.
+// Adds labels to tables, in each mode. Prints what each call answers and then every cell of the lent slices, those past the table
+// too. The file `stdout` beside this is written by oracle/adding_test.py, from the rules of document 01 and of Q-3 alone.
 use adding::AddAnswer;
+use adding::Mode;
 use libc::STDOUT_FILENO;
 
 // What stands in a cell that nothing was stored in.
@@ -62,11 +63,18 @@ fn show_answer(answer: AddAnswer) {
     text(b"\n");
 }
 
-fn add(k: usize, n: usize, keys: &mut [u64], counts: &mut [u32], label: &[u8]) -> usize {
+fn add(
+    mode: Mode,
+    k: usize,
+    n: usize,
+    keys: &mut [u64],
+    counts: &mut [u32],
+    label: &[u8],
+) -> usize {
     text(b"K");
     number(k);
     name(label);
-    let answer = adding::add_label(k, n, keys, counts, label);
+    let answer = adding::add_label(mode, k, n, keys, counts, label);
     show_answer(answer);
     stored_after(answer, n)
 }
@@ -103,86 +111,88 @@ fn show(keys: &[u64], counts: &[u32]) {
 }
 
 // Three labels added to a table with room for twelve vertices.
-fn three(k: usize, first: &[u8], second: &[u8], third: &[u8]) {
+fn three(mode: Mode, k: usize, first: &[u8], second: &[u8], third: &[u8]) {
     let mut keys = [FREE_KEY; 24];
     let mut counts = [FREE_COUNT; 12];
-    let a = add(k, 0, &mut keys, &mut counts, first);
-    let b = add(k, a, &mut keys, &mut counts, second);
-    add(k, b, &mut keys, &mut counts, third);
+    let a = add(mode, k, 0, &mut keys, &mut counts, first);
+    let b = add(mode, k, a, &mut keys, &mut counts, second);
+    add(mode, k, b, &mut keys, &mut counts, third);
     show(&keys, &counts);
 }
 
 // Two labels added where the keys have room for two vertices, with a word left over, and the counts for three.
-fn few(k: usize, first: &[u8], second: &[u8]) {
+fn few(mode: Mode, k: usize, first: &[u8], second: &[u8]) {
     let mut keys = [FREE_KEY; 5];
     let mut counts = [FREE_COUNT; 3];
-    let a = add(k, 0, &mut keys, &mut counts, first);
-    add(k, a, &mut keys, &mut counts, second);
+    let a = add(mode, k, 0, &mut keys, &mut counts, first);
+    add(mode, k, a, &mut keys, &mut counts, second);
     show(&keys, &counts);
 }
 
 // One label added many times.
-fn often(k: usize, label: &[u8], times: usize) {
+fn often(mode: Mode, k: usize, label: &[u8], times: usize) {
     let mut keys = [FREE_KEY; 8];
     let mut counts = [FREE_COUNT; 4];
     let mut n = 0;
     let mut i = 0;
     while i < times {
-        n = add(k, n, &mut keys, &mut counts, label);
+        n = add(mode, k, n, &mut keys, &mut counts, label);
         i += 1;
     }
     show(&keys, &counts);
 }
 
 // A label added to a table made by hand, which may be unfit.
-fn by_hand(k: usize, n: usize, first: u64, second: u64, label: &[u8]) {
+fn by_hand(mode: Mode, k: usize, n: usize, first: u64, second: u64, label: &[u8]) {
     let mut keys = [first, 0, second, 0, FREE_KEY, FREE_KEY];
     let mut counts = [1, 2, FREE_COUNT];
-    add(k, n, &mut keys, &mut counts, label);
+    add(mode, k, n, &mut keys, &mut counts, label);
     show(&keys, &counts);
 }
 
 // One label, and then two empty ones.
-fn one(k: usize, label: &[u8]) {
-    three(k, label, b"", b"");
+fn one(mode: Mode, k: usize, label: &[u8]) {
+    three(mode, k, label, b"", b"");
 }
 
 // Document 01's examples.
-fn examples() {
-    one(3, b"ACCCC");
-    one(3, b"GGGGT");
-    often(3, b"ACGG", 16);
-    one(3, b"ACCN");
-    one(3, b"AN");
-    one(1, b"AT");
+fn examples(mode: Mode) {
+    one(mode, 3, b"ACCCC");
+    one(mode, 3, b"GGGGT");
+    often(mode, 3, b"ACGG", 16);
+    one(mode, 3, b"ACCN");
+    one(mode, 3, b"AN");
+    one(mode, 1, b"AT");
 }
 
-fn no_ks() {
-    three(0, b"ACGT", b"", b"N");
-    three(64, b"ACGT", b"", b"N");
+fn no_ks(mode: Mode) {
+    three(mode, 0, b"ACGT", b"", b"N");
+    three(mode, 64, b"ACGT", b"", b"N");
 }
 
-fn ones_and_twos() {
-    three(1, b"ACGTTGCA", b"NA", b"acgu");
-    three(2, b"CAT", b"ATG", b"AAAA");
-    three(2, b"ATATAT", b"CGCG", b"GC");
+fn ones_and_twos(mode: Mode) {
+    three(mode, 1, b"ACGTTGCA", b"NA", b"acgu");
+    three(mode, 2, b"CAT", b"ATG", b"AAAA");
+    three(mode, 2, b"ATATAT", b"CGCG", b"GC");
 }
 
-fn threes_and_fours() {
-    three(3, b"ATCATC", b"GATGAT", b"ATATATA");
-    three(3, b"CAAAA", b"TTTTG", b"UuTtacGg");
-    three(3, b"ACGTACGTAAGGCC", b"TTTAGATTACA", b"ACG");
-    three(4, b"ACGTACGT", b"AACCGGTTR", b"CCCCC");
+fn threes_and_fours(mode: Mode) {
+    three(mode, 3, b"ATCATC", b"GATGAT", b"ATATATA");
+    three(mode, 3, b"CAAAA", b"TTTTG", b"UuTtacGg");
+    three(mode, 3, b"ACGTACGTAAGGCC", b"TTTAGATTACA", b"ACG");
+    three(mode, 4, b"ACGTACGT", b"AACCGGTTR", b"CCCCC");
 }
 
-fn one_word() {
+fn one_word(mode: Mode) {
     three(
+        mode,
         31,
         b"ACGTTGCAACGTACCAGTTGACCATGACCATGAC",
         b"GTCATGGTCATGGTCAACTGGTACGTTGCAACGT",
         b"TTTTTTTTTTTTTTTTTTTTTTTTTTTTTTTTTT",
     );
     three(
+        mode,
         32,
         b"ACGTTGCAACGTACCAGTTGACCATGACCATGACA",
         b"ACGTACGTACGTACGTACGTACGTACGTACGTACG",
@@ -190,14 +200,16 @@ fn one_word() {
     );
 }
 
-fn two_words() {
+fn two_words(mode: Mode) {
     three(
+        mode,
         33,
         b"ACGTTGCAACGTACCAGTTGACCATGACCATGACAG",
         b"AAAAAAAAAAAAAAAAAAAAAAAAAAAAAAAAA",
         b"CTGTCATGGTCATGGTCAACTGGTACGTTGCAACGT",
     );
     three(
+        mode,
         63,
         b"ACGTTGCAACGTACCAGTTGACCATGACCATGACAGACGTTGCAACGTACCAGTTGACCATGACC",
         b"TTTTTTTTTTTTTTTTTTTTTTTTTTTTTTTTTTTTTTTTTTTTTTTTTTTTTTTTTTTTTTTTTA",
@@ -205,50 +217,57 @@ fn two_words() {
     );
 }
 
-fn little_room() {
-    few(2, b"ACC", b"ACCG");
-    few(3, b"AACTT", b"AAC");
-    few(3, b"ACGG", b"TTT");
+fn little_room(mode: Mode) {
+    few(mode, 2, b"ACC", b"ACCG");
+    few(mode, 3, b"AACTT", b"AAC");
+    few(mode, 3, b"ACGG", b"TTT");
 }
 
-fn fit_tables() {
-    by_hand(3, 0, 5, 3, b"ACG");
-    by_hand(3, 1, 5, 3, b"ACG");
-    by_hand(3, 2, 3, 5, b"AAT");
-    by_hand(3, 2, 3, 5, b"ACC");
+fn fit_tables(mode: Mode) {
+    by_hand(mode, 3, 0, 5, 3, b"ACG");
+    by_hand(mode, 3, 1, 5, 3, b"ACG");
+    by_hand(mode, 3, 2, 3, 5, b"AAT");
+    by_hand(mode, 3, 2, 3, 5, b"ACC");
 }
 
-fn unfit_tables() {
-    by_hand(3, 2, 5, 3, b"ACG");
-    by_hand(3, 2, 5, 5, b"ACG");
-    by_hand(3, 1, 63, 0, b"ACG");
-    by_hand(3, 1, 64, 0, b"ACG");
-    by_hand(3, 4, 3, 5, b"ACG");
+fn unfit_tables(mode: Mode) {
+    by_hand(mode, 3, 2, 5, 3, b"ACG");
+    by_hand(mode, 3, 2, 5, 5, b"ACG");
+    by_hand(mode, 3, 1, 63, 0, b"ACG");
+    by_hand(mode, 3, 1, 64, 0, b"ACG");
+    by_hand(mode, 3, 4, 3, 5, b"ACG");
 }
 
-fn other_tables() {
-    by_hand(0, 2, 5, 3, b"ACG");
-    by_hand(3, 2, 5, 3, b"");
-    by_hand(3, 2, 3, 5, b"N");
+fn other_tables(mode: Mode) {
+    by_hand(mode, 0, 2, 5, 3, b"ACG");
+    by_hand(mode, 3, 2, 5, 3, b"");
+    by_hand(mode, 3, 2, 3, 5, b"N");
 }
 
-fn long() {
+fn long(mode: Mode) {
     let longest = [b'A'; 4096];
     let longer = [b'N'; 4097];
-    three(5, &longest, b"AAAAA", &longer);
-    by_hand(3, 2, 5, 3, &longer);
+    three(mode, 5, &longest, b"AAAAA", &longer);
+    by_hand(mode, 3, 2, 5, 3, &longer);
+}
+
+fn all(mode: Mode) {
+    examples(mode);
+    no_ks(mode);
+    ones_and_twos(mode);
+    threes_and_fours(mode);
+    one_word(mode);
+    two_words(mode);
+    little_room(mode);
+    fit_tables(mode);
+    unfit_tables(mode);
+    other_tables(mode);
+    long(mode);
 }
 
 fn main() {
-    examples();
-    no_ks();
-    ones_and_twos();
-    threes_and_fours();
-    one_word();
-    two_words();
-    little_room();
-    fit_tables();
-    unfit_tables();
-    other_tables();
-    long();
+    text(b"mode same canonical\n");
+    all(Mode::SameCanonical);
+    text(b"mode reversed\n");
+    all(Mode::Reversed);
 }

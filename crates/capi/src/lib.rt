@@ -3,16 +3,16 @@
 ghost use mathlib.Core.Path.{_≡_};
 ghost use mathlib.Core.List.{[], _∷_};
 ghost use Rattle.state.specs.Counted.{fourBits};
-ghost use Rattle.graph.specs.Sightings.{sameCanonical};
 ghost use Rattle.graph.specs.Adding.{addLabel};
 ghost use Rattle.graph.specs.Several.{addLabels};
 ghost use Rattle.graph.specs.Contraction.{contract};
 ghost use Rattle.graph.specs.Fasta.{fasta};
-ghost use Rattle.adding.specs.Says.{addAnswer};
+ghost use Rattle.adding.specs.Says.{addAnswer, ruleOf};
 ghost use Rattle.contraction.specs.Says.{contractAnswer};
-ghost use Rattle.capi.specs.Says.{noted, ofEdges, ofTotals, Tells, AddsLabel, AddsSeveral, ContractsTable, WritesFasta};
+ghost use Rattle.capi.specs.Says.{modeOf, noted, ofEdges, ofTotals, Tells, AddsLabel, AddsSeveral, ContractsTable, WritesFasta};
 use adding::AddAnswer;
 use adding::LabelsAnswer;
+use adding::Mode;
 use contraction::ContractAnswer;
 use fasta::FastaAnswer;
 
@@ -81,9 +81,20 @@ fn tell_contracted(answer: ContractAnswer, figures: &mut [u64]) -> u32
     }
 }
 
+// The mode that a number names: 0 the Rust's, any other the one that counts a step from a k-mer to itself on both its sides.
+fn mode_of(number: u32) -> Mode
+    ensures { λ r. ⌜ r ≡ modeOf number ⌝ }
+{
+    if number == 0 {
+        return Mode::SameCanonical;
+    }
+    Mode::Reversed
+}
+
 // `add_label`: figures are the edges and the number stored afterwards.
 #[no_mangle]
 pub extern "C" fn lash_add_label(
+    mode: u32,
     k: usize,
     n: usize,
     keys: &mut [u64],
@@ -91,14 +102,19 @@ pub extern "C" fn lash_add_label(
     label: &[u8],
     figures: &mut [u64],
 ) -> u32
-    ensures { λ r. ⌜ AddsLabel r (now (keys .exit)) (now (counts .exit)) (now (figures .entry)) (now (figures .exit)) (addLabel fourBits sameCanonical k n (now (keys .entry)) (now (counts .entry)) (now (label .entry))) ⌝ }
+    ensures { λ r. ⌜ AddsLabel r (now (keys .exit)) (now (counts .exit)) (now (figures .entry)) (now (figures .exit)) (addLabel fourBits (ruleOf (modeOf mode)) k n (now (keys .entry)) (now (counts .entry)) (now (label .entry))) ⌝ }
 {
-    tell_added(adding::add_label(k, n, keys, counts, label), figures)
+    let chosen = mode_of(mode);
+    tell_added(
+        adding::add_label(chosen, k, n, keys, counts, label),
+        figures,
+    )
 }
 
 // `add_labels`: totals are the labels added and the number stored after them, figures those of the last label that was tried.
 #[no_mangle]
 pub extern "C" fn lash_add_labels(
+    mode: u32,
     k: usize,
     n: usize,
     keys: &mut [u64],
@@ -110,9 +126,10 @@ pub extern "C" fn lash_add_labels(
     totals: &mut [u64],
     figures: &mut [u64],
 ) -> u32
-    ensures { λ r. ⌜ AddsSeveral r (now (keys .exit)) (now (counts .exit)) (now (totals .entry)) (now (totals .exit)) (now (figures .entry)) (now (figures .exit)) (addLabels fourBits sameCanonical k n (now (keys .entry)) (now (counts .entry)) (now (text .entry)) (now (starts .entry)) (now (lengths .entry)) count) ⌝ }
+    ensures { λ r. ⌜ AddsSeveral r (now (keys .exit)) (now (counts .exit)) (now (totals .entry)) (now (totals .exit)) (now (figures .entry)) (now (figures .exit)) (addLabels fourBits (ruleOf (modeOf mode)) k n (now (keys .entry)) (now (counts .entry)) (now (text .entry)) (now (starts .entry)) (now (lengths .entry)) count) ⌝ }
 {
-    match adding::add_labels(k, n, keys, counts, text, starts, lengths, count) {
+    let chosen = mode_of(mode);
+    match adding::add_labels(chosen, k, n, keys, counts, text, starts, lengths, count) {
         LabelsAnswer::Tried {
             labels,
             stored,

@@ -1,5 +1,6 @@
 pub mod Growing
 pub mod Meets
+pub mod Strands
 pub mod Program
 pub mod Every
 pub mod Told

@@ -9,7 +9,6 @@ use lib.ListN.{length, getD, take}
 use Rattle.dna.specs.Answer.{gives, refuses}
 use Rattle.state.specs.Counted.{fourBits}
 use Rattle.graph.specs.Table.{tableOf, keysOf}
-use Rattle.graph.specs.Sightings.{sameCanonical}
 use Rattle.graph.specs.Adding.{addLabel}
 use Rattle.graph.specs.Entries.{listed}
 use Rattle.graph.specs.Walks.{isolated}
@@ -17,25 +16,40 @@ use Rattle.graph.specs.Contraction.{Totals, Contracted, endsIn, contract}
 use Rattle.graph.proofs.Keys.{keys-copied}
 use Rattle.graph.proofs.Accepted.{refused-same}
 use Rattle.adding.specs.declared.AddAnswer.{AddAnswer}
-use Rattle.adding.specs.Says.{addAnswer, Adds}
+use Rattle.adding.specs.declared.Mode.{Mode}
+use Rattle.adding.specs.declared.Mode.the-variants as mode
+use Rattle.adding.specs.Says.{addAnswer, ruleOf, Adds}
 use Rattle.contraction.specs.declared.ContractAnswer.{ContractAnswer}
 use Rattle.contraction.specs.declared.ContractAnswer.the-variants as answers
 use Rattle.contraction.specs.Says.{contractAnswer, Contracts}
 use Rattle.laws.specs.Grown.{Grown, Grown.fresh, Grown.accepts, Grown.moves}
 use Rattle.laws.specs.Windows.{occurrences}
 use Rattle.laws.specs.Demand.{Each, HoldsLive, Always, Demand3}
+use Rattle.laws.proofs.Symmetry.{Lawful, lawful-canonical, lawful-reversed}
 use Rattle.laws.proofs.Demand.{demand3}
 use Rattle.laws.proofs.Listed.{contract-always, contract-occurrences}
 use Rattle.laws.proofs.Returned.{contract-live, contract-marks, contract-few, contract-fits}
 use Rattle.laws.proofs.Isolated.{grown-isolated}
 use Rattle.laws.proofs.Found.{grown-contract}
 use Rattle.laws.proofs.Again.{contract-again}
-use Rattle.demands.specs.Calls.{Called, Called.fresh as start, Called.adds as next, Called.adds-many as several, Called.moves as elsewhere}
+use Rattle.demands.specs.Calls.{
+  excepted,
+  Called,
+  Called.fresh as start,
+  Called.adds as next,
+  Called.adds-many as several,
+  Called.moves as elsewhere,
+}
 use Rattle.demands.proofs.Growing.{added-grown}
 
+-- Each mode has a rule that demand 3 can do with.
+lawful : (m : Mode) (K : ℕ) → Lawful (excepted m K) (ruleOf m) K
+lawful mode.SameCanonical = lawful-canonical
+lawful mode.Reversed = lawful-reversed
+
 -- What calls make is a grown table.
-pub called-grown : {K : ℕ} {ls : List (List ℕ)} {n : ℕ} {keys counts : List ℕ} → Called K ls n keys counts
-    → Grown fourBits sameCanonical K ls n keys counts
+pub called-grown : {m : Mode} {K : ℕ} {ls : List (List ℕ)} {n : ℕ} {keys counts : List ℕ} → Called m K ls n keys counts
+    → Grown fourBits (ruleOf m) K ls n keys counts
 called-grown (start keys counts) = fresh keys counts
 called-grown (next c l a {edges} {stored} e) =
     rw (a .keys-after, a .counts-after)
@@ -44,16 +58,16 @@ called-grown (several c text starts lengths count a) = added-grown (called-grown
 called-grown (elsewhere c keys′ counts′ e) = moves (called-grown c) keys′ counts′ e
 
 -- A refused call leaves the table as it was.
-pub called-refused : {K : ℕ} {ls : List (List ℕ)} {n : ℕ} {keys counts : List ℕ} → Called K ls n keys counts
-    → (l : List ℕ) {r : AddAnswer} {keys′ counts′ : List ℕ} → Adds r keys′ counts′ (addLabel fourBits sameCanonical K n keys counts l)
-    → (x : ℕ) (vs : List ℕ) → addAnswer r ≡ refuses x vs → Called K ls n keys′ counts′
-called-refused {K} {n = n} {keys = keys} {counts = counts} c l a x vs e =
-    let s = refused-same fourBits sameCanonical K n keys counts l x vs (sym (a .answer) ∙ e) in
+pub called-refused : {m : Mode} {K : ℕ} {ls : List (List ℕ)} {n : ℕ} {keys counts : List ℕ} → Called m K ls n keys counts
+    → (l : List ℕ) {r : AddAnswer} {keys′ counts′ : List ℕ} → Adds r keys′ counts′ (addLabel fourBits (ruleOf m) K n keys counts l)
+    → (x : ℕ) (vs : List ℕ) → addAnswer r ≡ refuses x vs → Called m K ls n keys′ counts′
+called-refused {m} {K} {n = n} {keys = keys} {counts = counts} c l a x vs e =
+    let s = refused-same fourBits (ruleOf m) K n keys counts l x vs (sym (a .answer) ∙ e) in
     rw (a .keys-after, a .counts-after, s .keys-same, s .counts-same) c
 
 -- A caller may copy the vertices: two words of keys and one of counts for each.
-pub called-copied : {K : ℕ} {ls : List (List ℕ)} {n : ℕ} {keys counts : List ℕ} → Called K ls n keys counts
-    → (keys′ counts′ : List ℕ) → take (2 * n) keys′ ≡ take (2 * n) keys → take n counts′ ≡ take n counts → Called K ls n keys′ counts′
+pub called-copied : {m : Mode} {K : ℕ} {ls : List (List ℕ)} {n : ℕ} {keys counts : List ℕ} → Called m K ls n keys counts
+    → (keys′ counts′ : List ℕ) → take (2 * n) keys′ ≡ take (2 * n) keys → take n counts′ ≡ take n counts → Called m K ls n keys′ counts′
 called-copied {n = n} {keys = keys} c keys′ counts′ p q =
     let ks : keysOf n keys′ ≡ keysOf n keys = sym (keys-copied n keys′) ∙ ap (keysOf n) p ∙ keys-copied n keys in
     elsewhere c keys′ counts′ (ap₂ (λ (k w : List ℕ). record { keys = k; counts = w }) ks q)
@@ -94,23 +108,23 @@ module _ (K cutoff n : ℕ) (keys counts labels starts lengths marks : List ℕ)
     call-few = contract-few fourBits K cutoff n keys counts labels starts lengths marks totals answered
 
     -- Over a table that calls have made: all of it.
-    pub call-meets : {ls : List (List ℕ)} → Called K ls n keys counts
-        → Demand3 K (keysOf n keys) (endsIn fourBits cutoff (tableOf n keys counts)) (listed number labels′ starts′ lengths′)
-    call-meets g =
+    pub call-meets : {m : Mode} {ls : List (List ℕ)} → Called m K ls n keys counts
+        → Demand3 K (keysOf n keys) (endsIn fourBits cutoff (tableOf n keys counts)) (excepted m K) (listed number labels′ starts′ lengths′)
+    call-meets {m} g =
         rw (c .labels-after, c .starts-after, c .lengths-after)
-        (demand3 (called-grown g) cutoff labels starts lengths marks totals answered)
+        (demand3 (lawful m K) (called-grown g) cutoff labels starts lengths marks totals answered)
 
     -- Over such a table an isolated k-mer stands in a label only for even K and cutoff 2 or more.
-    pub call-isolated : {ls : List (List ℕ)} → Called K ls n keys counts → (K % 2 ≡ 1) ⊎ (cutoff ≤ 1)
+    pub call-isolated : {m : Mode} {ls : List (List ℕ)} → Called m K ls n keys counts → (K % 2 ≡ 1) ⊎ (cutoff ≤ 1)
         → (v : ℕ) → v < n → isolated (endsIn fourBits cutoff (tableOf n keys counts)) v ≡ true
         → occurrences K (getD (keysOf n keys) v 0) (listed number labels′ starts′ lengths′) ≡ 0
-    call-isolated g h v l i =
+    call-isolated {m} g h v l i =
         rw (c .labels-after, c .starts-after, c .lengths-after)
         (contract-occurrences fourBits K cutoff n keys counts labels starts lengths marks totals answered (getD (keysOf n keys) v 0)
-        ∙ grown-isolated (called-grown g) cutoff h v l i)
+        ∙ grown-isolated (lawful m K) (called-grown g) cutoff h v l i)
 
   -- Over such a table no vertex is ever missing.
-  pub call-finds : {ls : List (List ℕ)} → Called K ls n keys counts → r ≡ answers.MissingVertex → ⊥
+  pub call-finds : {m : Mode} {ls : List (List ℕ)} → Called m K ls n keys counts → r ≡ answers.MissingVertex → ⊥
   call-finds g e = grown-contract (called-grown g) cutoff labels starts lengths marks [] (sym (c .answer) ∙ ap contractAnswer e)
 
   -- Room for n times K bases and n entries is always enough: it is never refused with 9.

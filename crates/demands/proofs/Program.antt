@@ -10,6 +10,7 @@ use Rattle.dna.specs.Text.{over}
 use Rattle.dna.specs.Answer.{gives, Filled}
 use Rattle.kmer.specs.Kmer.{okK}
 use Rattle.state.specs.Counted.{fourBits}
+use Rattle.graph.specs.Sightings.{sameCanonical}
 use Rattle.graph.specs.Adding.{Edges}
 use Rattle.graph.specs.Entries.{listed, within}
 use Rattle.graph.specs.Several.{Several, untried}
@@ -18,7 +19,8 @@ use Rattle.graph.specs.Fasta.{recordsOf, fasta}
 use Rattle.label_file.specs.LabelFile.{holds, fileOf}
 use Rattle.label_file.specs.Output.{Buffers, withTable, withList, withText, printed, listedAfter, listAll, output, zeros, printing, unitigs}
 use Rattle.laws.specs.Grown.{Grown.fresh}
-use Rattle.laws.specs.Demand.{Demand3}
+use Rattle.laws.specs.Demand.{OneBase, Demand3}
+use Rattle.laws.proofs.Symmetry.{lawful-canonical}
 use Rattle.laws.proofs.Demand.{demand3}
 use Rattle.laws.proofs.Listed.{contract-within}
 use Rattle.demands.specs.Printed.{table, keys, ends, result, list}
@@ -45,9 +47,9 @@ module _ (K cutoff : ℕ) (labels : List (List ℕ)) {t : Totals} (given : resul
   abbrev start : Several
   start = untried 0 (zeros .keys) (zeros .counts)
 
-  pub list-meets : Demand3 K (keys K labels) (ends K cutoff labels) (list K cutoff labels (t .labels))
+  pub list-meets : Demand3 K (keys K labels) (ends K cutoff labels) (OneBase K) (list K cutoff labels (t .labels))
   list-meets =
-      demand3 (grows K start labels [] (fresh (zeros .keys) (zeros .counts)) .grown) cutoff (zeros .labels) (zeros .starts) (zeros .lengths)
+      demand3 (lawful-canonical K) (grows sameCanonical K start labels [] (fresh (zeros .keys) (zeros .counts)) .grown) cutoff (zeros .labels) (zeros .starts) (zeros .lengths)
       (zeros .marks) t given
 
   pub list-inside : (let c = result K cutoff labels in within (c .labels) (t .labels) (c .starts) (c .lengths) ≡ true)
@@ -70,7 +72,7 @@ pub program-prints : (file : List ℕ) {K cutoff : ℕ} {labels : List (List ℕ
     → {t : Totals} → result K cutoff labels .answer ≡ gives t
     → length (recordsOf (list K cutoff labels (t .labels))) ≤ 8192
     → (unitigs file ≡ recordsOf (list K cutoff labels (t .labels)))
-    × Demand3 K (keys K labels) (ends K cutoff labels) (list K cutoff labels (t .labels))
+    × Demand3 K (keys K labels) (ends K cutoff labels) (OneBase K) (list K cutoff labels (t .labels))
 program-prints file {K} {cutoff} {labels} sound supported added {t} given fits =
     let s = table K labels in
     let room : length (recordsOf (list K cutoff labels (t .labels))) ≤ length (zeros .text) = rw (length-replicate {A = ℕ} 8192 0) fits in (

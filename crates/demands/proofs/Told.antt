@@ -12,7 +12,7 @@ use Rattle.dna.proofs.Answers.{either}
 use Rattle.kmer.specs.Kmer.{okK}
 use Rattle.state.specs.Counted.{fourBits}
 use Rattle.graph.specs.Table.{tableOf, keysOf, capacity, fit}
-use Rattle.graph.specs.Sightings.{sameCanonical}
+use Rattle.graph.specs.Sightings.{Rule}
 use Rattle.graph.specs.Adding.{Edges, Added, added, addBases, addLabel}
 use Rattle.graph.specs.Entries.{listed, within}
 use Rattle.graph.specs.Several.{Several, untried, addNext, addEach, addLabels}
@@ -41,42 +41,42 @@ unfolding firstBad
 bad-told P none at i [] = none
 bad-told P none at i (b ∷ s) = choose P (isBase b) (λ _. bad-told P none at (suc i) s) (λ _. at i b)
 
-pub add-told : (K n : ℕ) (keys counts label : List ℕ) → Told (addLabel fourBits sameCanonical K n keys counts label .answer)
+pub add-told : (rule : Rule) (K n : ℕ) (keys counts label : List ℕ) → Told (addLabel fourBits rule K n keys counts label .answer)
 unfolding addLabel addBases
-add-told K n keys counts label =
+add-told rule K n keys counts label =
     choose ToldIn (not (okK K)) (λ _. (one.UnsupportedK K, refl))
     (λ _. choose ToldIn (not (fit K n keys counts)) (λ _. (one.Unfit, refl))
     (λ _. choose ToldIn (ltb 4096 (length label)) (λ _. (one.TooLong (length label), refl))
     (λ _. choose ToldIn (ltb (length label) K) (λ _. (one.Added 0 n, refl))
-    (λ _. bad-told (λ (bad : List ℕ). ToldIn (addBases fourBits sameCanonical K n keys counts label bad)) bases bad-place 0 label))))
+    (λ _. bad-told (λ (bad : List ℕ). ToldIn (addBases fourBits rule K n keys counts label bad)) bases bad-place 0 label))))
   where
-    bases : ToldIn (addBases fourBits sameCanonical K n keys counts label [])
+    bases : ToldIn (addBases fourBits rule K n keys counts label [])
     bases =
-        let t = added fourBits sameCanonical K label (tableOf n keys counts) in
+        let t = added fourBits rule K label (tableOf n keys counts) in
         choose ToldIn (ltb (capacity keys counts) (length (t .keys))) (λ _. (one.Full, refl)) (λ _. (one.Added _ _, refl))
 
-    bad-place : (place byte : ℕ) → ToldIn (addBases fourBits sameCanonical K n keys counts label (place ∷ byte ∷ []))
+    bad-place : (place byte : ℕ) → ToldIn (addBases fourBits rule K n keys counts label (place ∷ byte ∷ []))
     bad-place place byte = (one.InvalidBase place byte, refl)
 
 -- ---- many labels
 
-module _ (K : ℕ) where
-  each-told : (s : Several) (ls : List (List ℕ)) → Told (s .answer) → Told (addEach fourBits sameCanonical K s ls .answer)
+module _ (rule : Rule) (K : ℕ) where
+  each-told : (s : Several) (ls : List (List ℕ)) → Told (s .answer) → Told (addEach fourBits rule K s ls .answer)
   unfolding addEach addNext
   each-told s [] h = h
   each-told s (l ∷ ls) h =
-      let a = addLabel fourBits sameCanonical K (s .stored) (s .keys) (s .counts) l in
+      let a = addLabel fourBits rule K (s .stored) (s .keys) (s .counts) l in
       either (λ (t : Several). Told (t .answer)) (s .answer)
-      (λ _ _. either (λ (t : Several). Told (addEach fourBits sameCanonical K t ls .answer)) (a .answer)
+      (λ _ _. either (λ (t : Several). Told (addEach fourBits rule K t ls .answer)) (a .answer)
       (λ e _. each-told _ ls (one.Added (e .edges) (e .stored), refl))
-      (λ r vs q. each-told _ ls (rw q at (add-told K (s .stored) (s .keys) (s .counts) l))))
+      (λ r vs q. each-told _ ls (rw q at (add-told rule K (s .stored) (s .keys) (s .counts) l))))
       (λ r vs q. h)
 
   pub labels-told : (n : ℕ) (keys counts text starts lengths : List ℕ) (count : ℕ)
-      → (x : LabelsAnswer) × labelsSay n x (addLabels fourBits sameCanonical K n keys counts text starts lengths count)
+      → (x : LabelsAnswer) × labelsSay n x (addLabels fourBits rule K n keys counts text starts lengths count)
   unfolding addLabels
   labels-told n keys counts text starts lengths count =
-      let s = addEach fourBits sameCanonical K (untried n keys counts) (listed count text starts lengths) in
+      let s = addEach fourBits rule K (untried n keys counts) (listed count text starts lengths) in
       let last = each-told (untried n keys counts) (listed count text starts lengths) (one.Added 0 n, refl) in
       choose (λ (t : Several). (x : LabelsAnswer) × labelsSay n x t) (within text count starts lengths)
       (λ _. (many.Tried (s .labels) (s .stored) (last .0), (refl, refl, last .1))) (λ _. (many.OutOfText, (refl, refl, refl)))

@@ -4,7 +4,6 @@ use mathlib.Core.Path.{_≡_}
 use mathlib.Core.List.{List, [], _∷_}
 use lib.ListN.{take}
 use Rattle.state.specs.Counted.{fourBits}
-use Rattle.graph.specs.Sightings.{sameCanonical}
 use Rattle.graph.specs.Adding.{addLabel}
 use Rattle.graph.specs.Table.{tableOf}
 use Rattle.graph.specs.Entries.{listed}
@@ -13,7 +12,10 @@ use Rattle.adding.specs.declared.AddAnswer.{AddAnswer}
 use Rattle.adding.specs.declared.AddAnswer.the-variants as one
 use Rattle.adding.specs.declared.LabelsAnswer.{LabelsAnswer}
 use Rattle.adding.specs.declared.LabelsAnswer.the-variants as many
-use Rattle.adding.specs.Says.{Adds, AddsLabels}
+use Rattle.adding.specs.declared.Mode.{Mode}
+use Rattle.adding.specs.declared.Mode.the-variants as mode
+use Rattle.adding.specs.Says.{ruleOf, Adds, AddsLabels}
+use Rattle.laws.specs.Demand.{OneBase, Nothing}
 
 -- Labels put on others one by one, so that the last one comes first.
 abbrev pub onto : List (List ℕ) → List (List ℕ) → List (List ℕ)
@@ -29,17 +31,22 @@ abbrev pub storedBy : ℕ → LabelsAnswer → ℕ
 storedBy n (many.Tried added stored last) = stored
 storedBy n many.OutOfText = n
 
--- At one K and from none stored: the labels that were added, last one first, the number stored, and the two slices that hold the vertices. A call is
--- known by its contract. One of `add_labels` adds the first of its labels, up to one that is refused.
-pub data Called (K : ℕ) : List (List ℕ) → ℕ → List ℕ → List ℕ → Type 0 where
-  fresh : (keys counts : List ℕ) → Called K [] 0 keys counts
-  adds : {ls : List (List ℕ)} {n : ℕ} {keys counts : List ℕ} → Called K ls n keys counts
-      → (l : List ℕ) {r : AddAnswer} {keys′ counts′ : List ℕ} → Adds r keys′ counts′ (addLabel fourBits sameCanonical K n keys counts l)
-      → {edges stored : ℕ} → r ≡ one.Added edges stored → Called K (l ∷ ls) stored keys′ counts′
-  adds-many : {ls : List (List ℕ)} {n : ℕ} {keys counts : List ℕ} → Called K ls n keys counts
+-- The k-mers that the last sentence of demand 3 excepts: in the Rust's mode those of one repeated base, in document 02's none.
+abbrev pub excepted : Mode → ℕ → ℕ → Type 0
+excepted mode.SameCanonical = OneBase
+excepted mode.Reversed = Nothing
+
+-- In one mode, at one K and from none stored: the labels that were added, last one first, the number stored, and the two slices that hold the
+-- vertices. A call is known by its contract. One of `add_labels` adds the first of its labels, up to one that is refused.
+pub data Called (m : Mode) (K : ℕ) : List (List ℕ) → ℕ → List ℕ → List ℕ → Type 0 where
+  fresh : (keys counts : List ℕ) → Called m K [] 0 keys counts
+  adds : {ls : List (List ℕ)} {n : ℕ} {keys counts : List ℕ} → Called m K ls n keys counts
+      → (l : List ℕ) {r : AddAnswer} {keys′ counts′ : List ℕ} → Adds r keys′ counts′ (addLabel fourBits (ruleOf m) K n keys counts l)
+      → {edges stored : ℕ} → r ≡ one.Added edges stored → Called m K (l ∷ ls) stored keys′ counts′
+  adds-many : {ls : List (List ℕ)} {n : ℕ} {keys counts : List ℕ} → Called m K ls n keys counts
       → (text starts lengths : List ℕ) (count : ℕ) {r : LabelsAnswer} {keys′ counts′ : List ℕ}
-      → AddsLabels n r keys′ counts′ (addLabels fourBits sameCanonical K n keys counts text starts lengths count)
-      → Called K (onto (take (addedBy r) (listed count text starts lengths)) ls) (storedBy n r) keys′ counts′
+      → AddsLabels n r keys′ counts′ (addLabels fourBits (ruleOf m) K n keys counts text starts lengths count)
+      → Called m K (onto (take (addedBy r) (listed count text starts lengths)) ls) (storedBy n r) keys′ counts′
   -- The same vertices in other slices, or other cells behind them: so a caller goes on who was refused with 6.
-  moves : {ls : List (List ℕ)} {n : ℕ} {keys counts : List ℕ} → Called K ls n keys counts
-      → (keys′ counts′ : List ℕ) → tableOf n keys′ counts′ ≡ tableOf n keys counts → Called K ls n keys′ counts′
+  moves : {ls : List (List ℕ)} {n : ℕ} {keys counts : List ℕ} → Called m K ls n keys counts
+      → (keys′ counts′ : List ℕ) → tableOf n keys′ counts′ ≡ tableOf n keys counts → Called m K ls n keys′ counts′

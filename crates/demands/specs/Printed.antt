@@ -17,7 +17,7 @@ use Rattle.graph.specs.Contraction.{Totals, Contracted, endsIn, contract}
 use Rattle.graph.specs.Fasta.{recordsOf}
 use Rattle.label_file.specs.LabelFile.{damaged, holds, fileOf}
 use Rattle.label_file.specs.Output.{zeros, refusal}
-use Rattle.laws.specs.Demand.{Demand3}
+use Rattle.laws.specs.Demand.{OneBase, Demand3}
 
 -- ---- in the program's own buffers, for K, a cutoff and labels
 
@@ -68,4 +68,4 @@ pub data Prints (file text : List ℕ) : Type 0 where
       → {t : Totals} → result K cutoff labels .answer ≡ gives t
       → length (recordsOf (list K cutoff labels (t .labels))) ≤ 8192
       → text ≡ recordsOf (list K cutoff labels (t .labels))
-      → Demand3 K (keys K labels) (ends K cutoff labels) (list K cutoff labels (t .labels)) → Prints file text
+      → Demand3 K (keys K labels) (ends K cutoff labels) (OneBase K) (list K cutoff labels (t .labels)) → Prints file text

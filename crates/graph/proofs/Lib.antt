@@ -4,8 +4,10 @@ pub mod Insert
 pub mod Store
 pub mod Lookup
 pub mod Sight
+pub mod Alike
 pub mod Keys
 pub mod Adding
+pub mod AnyOrder
 pub mod Accepted
 pub mod Entries
 pub mod Several

@@ -14,7 +14,7 @@ use Rattle.kmer.specs.Calls.{packCall, reverseCall, openCalls}
 use Rattle.state.specs.declared.Side.the-variants.{Back}
 use Rattle.state.specs.Counted.{fourBits, openCounted}
 use Rattle.graph.specs.Table.{keysOf, tableOf, openTable}
-use Rattle.graph.specs.Sightings.{sameCanonical, openSightings}
+use Rattle.graph.specs.Sightings.{Rule, sameCanonical, openSightings}
 use Rattle.graph.specs.Adding.{Edges, addLabel, storedAfter, openAdding}
 use Rattle.graph.specs.Entries.{openEntries}
 use Rattle.graph.specs.Walks.{closed, walk, openWalks}
@@ -44,11 +44,11 @@ pub record State : Type 0 where
 abbrev pub empty : State
 empty = record { stored = 0; keys = replicate 16 0; counts = replicate 8 0; answers = [] }
 
-abbrev pub addAll : ℕ → State → List String → State
-addAll K t [] = t
-addAll K t (l ∷ ls) =
-    let a = addLabel fourBits sameCanonical K (t .stored) (t .keys) (t .counts) (bytes l) in
-    addAll K
+abbrev pub addAll : Rule → ℕ → State → List String → State
+addAll rule K t [] = t
+addAll rule K t (l ∷ ls) =
+    let a = addLabel fourBits rule K (t .stored) (t .keys) (t .counts) (bytes l) in
+    addAll rule K
     (record {
       stored = storedAfter (t .stored) (a .answer);
       keys = a .keys;
@@ -78,11 +78,11 @@ closesAt K t cutoff =
     let table = tableOf (t .stored) (t .keys) (t .counts) in
     closed (walk K (table .keys) (endsIn fourBits cutoff table) 0 Back (replicate (t .stored) 0) .last)
 
-abbrev pub resultOf : Example → Result
-resultOf (grow K labels cutoffs) =
-    let t = addAll K empty labels in
+abbrev pub resultBy : Rule → Example → Result
+resultBy rule (grow K labels cutoffs) =
+    let t = addAll rule K empty labels in
     grown (t .answers) (keysOf (t .stored) (t .keys)) (take (t .stored) (t .counts)) (map (fastaAt K t) cutoffs) (map (closesAt K t) cutoffs)
-resultOf (turn K s) = turned (packCall K (bytes s)) (reverseCall K (packed (bytes s)))
+resultBy rule (turn K s) = turned (packCall K (bytes s)) (reverseCall K (packed (bytes s)))
 
 -- Edges and number stored.
 abbrev pub edges : ℕ → ℕ → Answer Edges
@@ -151,6 +151,6 @@ examples =
     ∷ (turn 64 thirtyThree, turned (refuses 1 (64 ∷ [])) (refuses 1 (64 ∷ [])))
     ∷ []
 
-pub proved : map (λ (e : Example × Result). resultOf (e .0)) examples ≡ map (λ (e : Example × Result). e .1) examples
+pub proved : map (λ (e : Example × Result). resultBy sameCanonical (e .0)) examples ≡ map (λ (e : Example × Result). e .1) examples
 unfolding openText openLetters openOrder openKmer openCalls openCounted openTable openSightings openAdding openEntries openWalks openLabels openContraction openFasta
 proved = refl

@@ -10,3 +10,4 @@ pub mod Fasta
 pub mod Examples
 pub mod Lent
 pub mod SeveralExamples
+pub mod LoopExamples

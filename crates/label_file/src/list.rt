@@ -20,6 +20,7 @@ use super::index;
 use super::line;
 use adding::AddAnswer;
 use adding::LabelsAnswer;
+use adding::Mode;
 use contraction::ContractAnswer;
 use fasta::FastaAnswer;
 
@@ -59,7 +60,17 @@ fn take_labels(file: &[u8], k: usize, keys: &mut [u64], counts: &mut [u32]) -> T
     let mut starts = [0u32; 4096];
     let mut lengths = [0u32; 4096];
     let count = index::index_labels(file, &mut starts, &mut lengths);
-    match adding::add_labels(k, 0, keys, counts, file, &starts, &lengths, count) {
+    match adding::add_labels(
+        Mode::SameCanonical,
+        k,
+        0,
+        keys,
+        counts,
+        file,
+        &starts,
+        &lengths,
+        count,
+    ) {
         LabelsAnswer::Tried {
             labels,
             stored,

@@ -20,7 +20,8 @@ use Rattle.graph.specs.Walks.{openWalks}
 use Rattle.graph.specs.Labels.{openLabels}
 use Rattle.graph.specs.Contraction.{Contracted, endsIn, contract, openContraction}
 use Rattle.laws.specs.Grown.{Grown, fresh, accepts}
-use Rattle.laws.specs.Demand.{Sole, Demand3, openDemand}
+use Rattle.laws.specs.Demand.{Sole, OneBase, Demand3, openDemand}
+use Rattle.laws.proofs.Symmetry.{lawful-canonical}
 use Rattle.laws.proofs.Demand.{demand3}
 use Rattle.laws.proofs.Example.{p1-grown}
 
@@ -42,8 +43,8 @@ accepted : called .answer ≡ gives (record { labels = 1; bases = 4 })
 unfolding openText openLetters openOrder openKmer openCounted openTable openWalks openLabels openContraction
 accepted = refl
 
-pub met : Demand3 3 (keysOf 2 keys) (endsIn fourBits 1 (tableOf 2 keys counts)) (listed 1 (called .labels) (called .starts) (called .lengths))
-met = demand3 grown 1 (replicate 8 0) (replicate 2 0) (replicate 2 0) (replicate 2 0) (record { labels = 1; bases = 4 }) accepted
+pub met : Demand3 3 (keysOf 2 keys) (endsIn fourBits 1 (tableOf 2 keys counts)) (OneBase 3) (listed 1 (called .labels) (called .starts) (called .lengths))
+met = demand3 (lawful-canonical 3) grown 1 (replicate 8 0) (replicate 2 0) (replicate 2 0) (replicate 2 0) (record { labels = 1; bases = 4 }) accepted
 
 pub met-label : listed 1 (called .labels) (called .starts) (called .lengths) ≡ bytes "ACGG" ∷ []
 unfolding openText openLetters openOrder openKmer openCounted openTable openEntries openWalks openLabels openContraction openDemand
@@ -63,6 +64,6 @@ unfolding openText openLetters openOrder openKmer openCounted openTable openWalk
 p1-accepted = refl
 
 pub p1-met :
-    Demand3 3 (keysOf 2 (5 ∷ 0 ∷ 21 ∷ 0 ∷ [])) (endsIn fourBits 1 (tableOf 2 (5 ∷ 0 ∷ 21 ∷ 0 ∷ []) (0x00100000 ∷ 0x00100001 ∷ [])))
+    Demand3 3 (keysOf 2 (5 ∷ 0 ∷ 21 ∷ 0 ∷ [])) (endsIn fourBits 1 (tableOf 2 (5 ∷ 0 ∷ 21 ∷ 0 ∷ []) (0x00100000 ∷ 0x00100001 ∷ []))) (OneBase 3)
     (listed 1 (p1-called .labels) (p1-called .starts) (p1-called .lengths))
-p1-met = demand3 p1-grown 1 (replicate 8 0) (replicate 2 0) (replicate 2 0) (replicate 2 0) (record { labels = 1; bases = 4 }) p1-accepted
+p1-met = demand3 (lawful-canonical 3) p1-grown 1 (replicate 8 0) (replicate 2 0) (replicate 2 0) (replicate 2 0) (record { labels = 1; bases = 4 }) p1-accepted

@@ -18,7 +18,7 @@ use Rattle.state.specs.Counted.{Kind, slotOf, count, retained, edgeAt, edgeCoun
 use Rattle.state.proofs.Edges.{edge-none, edge-base}
 use Rattle.state.proofs.Retained.{retained-exactly}
 use Rattle.graph.specs.Table.{tableOf, keysOf, fitFrom}
-use Rattle.graph.specs.Sightings.{Rule, sameCanonical}
+use Rattle.graph.specs.Sightings.{Rule}
 use Rattle.graph.specs.Walks.{Ends, edge, isolated}
 use Rattle.graph.specs.Labels.{run}
 use Rattle.graph.specs.Contraction.{endsIn}
@@ -28,6 +28,7 @@ use Rattle.graph.proofs.Accepted.{fit-length, fit-sound, accepted}
 use Rattle.laws.specs.Grown.{Grown, fresh, accepts, moves, Joins}
 use Rattle.laws.specs.Windows.{occurrences}
 use Rattle.laws.proofs.Keys.{grown-fit}
+use Rattle.laws.proofs.Symmetry.{Lawful}
 use Rattle.laws.proofs.Edges.{other-end, grown-symmetric}
 use Rattle.laws.proofs.Fits.{edge-at, edges-known, fit-marks}
 use Rattle.laws.proofs.Steps.{ahead}
@@ -56,7 +57,8 @@ grown-ok (fresh keys counts) h = absurd (omega arith)
 grown-ok {κ} {rule} {K} (accepts {n = n} {keys = keys} {counts = counts} g l e q) h = accepted κ rule K n keys counts l e q .ok
 grown-ok (moves g keys′ counts′ e) h = grown-ok g h
 
-module _ {κ : Kind} {K : ℕ} {ls : List (List ℕ)} {n : ℕ} {keys counts : List ℕ} (g : Grown κ sameCanonical K ls n keys counts) (cutoff : ℕ) where
+module _ {Excepted : ℕ → Type 0} {κ : Kind} {rule : Rule} {K : ℕ} {ls : List (List ℕ)} {n : ℕ} {keys counts : List ℕ}
+    (lawful : Lawful Excepted rule K) (g : Grown κ rule K ls n keys counts) (cutoff : ℕ) where
   abbrev ks : List ℕ
   ks = keysOf n keys
 
@@ -99,7 +101,7 @@ module _ {κ : Kind} {K : ℕ} {ls : List (List ℕ)} {n : ℕ} {keys counts : L
       let oe = other-end K ks fits u s (edge es u s) hu (k .0) (l .found) in
       let j : Joins K ks u s (edge es u s) v e (oe .0) = rw (l .vertex, l .side) at (oe .2) in
       let same =
-      grown-symmetric g odd u s (edge es u s) v e (oe .0) (omega (arith, size)) (omega (arith, size)) (k .0) (oe .1) j (λ q _. differ q) in
+      grown-symmetric g lawful odd u s (edge es u s) v e (oe .0) (omega (arith, size)) (omega (arith, size)) (k .0) (oe .1) j (λ q _ _. differ q) in
       counted-live v e (oe .0) hv (oe .1) (omega (arith, k .1))
 
   -- For cutoff 1 a counter there that is not 0 is enough, and for cutoff 0 any.
@@ -110,7 +112,7 @@ module _ {κ : Kind} {K : ℕ} {ls : List (List ℕ)} {n : ℕ} {keys counts : L
       let to : canon K (ahead K ks es u s) ≡ getD ks v 0 =
       sym (stored-at ks (canon K (ahead K ks es u s)) (l .found)) ∙ ap (λ (i : ℕ). getD ks i 0) (l .vertex) in
       let m =
-      grown-answered g u s (edge es u s) v (omega (arith, size)) (omega (arith, size)) (k .0) (omega (arith, k .1)) to
+      grown-answered lawful g u s (edge es u s) v (omega (arith, size)) (omega (arith, size)) (k .0) (omega (arith, k .1)) to
       (λ q. differ (key-inj K ks fits u v hu hv (sym q))) in
       counted-live v (m .side) (m .base) hv (m .below) (omega (arith, m .counted)))
       (λ z. counted-live v Front 0 hv (omega arith) (omega arith))

@@ -1,12 +1,14 @@
 pub mod Keys
 pub mod Sides
 pub mod Sighted
+pub mod AnyOrder
 pub mod Counts
 pub mod Links
 pub mod Ahead
 pub mod Closed
 pub mod Odd
 pub mod Parts
+pub mod Gains
 pub mod Symmetry
 pub mod Edges
 pub mod Found
@@ -37,7 +39,11 @@ pub mod Maximal
 pub mod Answered
 pub mod Entered
 pub mod Isolated
+pub mod Strands
+pub mod Turned
+pub mod Tables
 pub mod Demand
 pub mod Asked
+pub mod LoopExample
 pub mod Again
 pub mod Returned

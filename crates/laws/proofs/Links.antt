@@ -118,6 +118,13 @@ module _ (K x b : ℕ) (h : x < 4 ^ K) (l : b < 4) (loop : forward K x b ≡ x) 
   pub loop-letters : letters K x ≡ replicate K (letterOf b)
   loop-letters = loop-spelt K (omega arith)
 
+-- A window with the base behind it.
+pub window-long : (K : ℕ) (label : List ℕ) (i : ℕ) → i + K < length label
+    → window (suc K) label i ≡ 4 * window K label i + codeOf (getD label (i + K) 0)
+window-long K label i h =
+    let d : K < length (drop i label) = simp length-drop (omega arith) in
+    rw (take-suc (drop i label) K 0 d, getD-drop i label K 0) (packed-snoc (take K (drop i label)) (getD label (i + K) 0))
+
 -- A window and the one after it.
 pub window-link : (K : ℕ) (label : List ℕ) (i : ℕ) → Bases label → i + K < length label
     → Link K (window K label i) (codeOf (getD label (i + K) 0)) (codeOf (getD label i 0)) (window K label (suc i))
@@ -127,13 +134,9 @@ window-link K label i b h = record {
   next = bases-at label (i + K) h b;
   first = bases-at label i (omega arith) b;
   same =
-      let d : K < length (drop i label) = simp length-drop (omega arith) in
       let n : length (take K (drop (suc i) label)) ≡ K = length-take-le K (drop (suc i) label) (simp length-drop (omega arith)) in
-      let s = packed-snoc (take K (drop i label)) (getD label (i + K) 0) in
       let c = packed-cons (getD label i 0) (take K (drop (suc i) label)) in
-      let e : packed (take (suc K) (drop i label)) ≡ 4 * window K label i + codeOf (getD label (i + K) 0) =
-      rw (take-suc (drop i label) K 0 d, getD-drop i label K 0) s in
       let f : packed (take (suc K) (drop i label)) ≡ codeOf (getD label i 0) * 4 ^ K + window K label (suc i) =
       ap (λ (l : List ℕ). packed (take (suc K) l)) (drop-cons label i 0 (omega arith)) ∙ (rw n at c) in
-      sym e ∙ f;
+      sym (window-long K label i h) ∙ f;
 }

@@ -4,17 +4,15 @@ use mathlib.Core.Path.{_≡_, refl, sym, ap, ap₂, _∙_, subst}
 use mathlib.Core.Bool.{true, false, cond}
 use mathlib.Core.Logic.{⊎-elim}
 use mathlib.Core.List.{List, [], _∷_, _++_, map, reverse, reverse-cons, map-append}
-use Prim.Native.Nat.{ℕ, zero, suc, _+_, _^_, _≤_, _<_}
+use Prim.Native.Nat.{ℕ, _+_, _^_, _≤_, _<_}
 use native.Mathlib.Omega.{arith}
 use lib.Dec.{eqb}
-use lib.ListN.{length, take, getD}
-use lib.Seq.{length-take-le}
+use lib.ListN.{length, getD}
 use borrow.Author.Tests.{eqb-true, eqb-false, eq-eqb, ne-eqb}
 use Rattle.lemmas.proofs.Tests.{never}
 use Rattle.lemmas.proofs.Numbers.{true-or-false}
 use Rattle.kmer.specs.Kmer.{rc, canon}
 use Rattle.kmer.proofs.Strands.{canon-rc, canon-of-canonical}
-use Rattle.kmer.proofs.Windows.{Bases, bases-take, packed-lt}
 use Rattle.state.specs.declared.Side.{Side}
 use Rattle.graph.specs.Table.{fitFrom, rank, stored}
 use Rattle.graph.specs.Walks.{Ends, edge, seen, isolated}
@@ -24,8 +22,9 @@ use Rattle.graph.proofs.Rank.{stored-lt, stored-at}
 use Rattle.graph.proofs.Lookup.{key-at, at-stored, key-inj}
 use Rattle.laws.specs.Trails.{Place, occ}
 use Rattle.laws.specs.Tours.{Piece, inPiece, inPieces, kmers, reading, readKmers}
-use Rattle.laws.specs.Windows.{windowsFrom, tally, occurs, occurrences}
+use Rattle.laws.specs.Windows.{tally, occurs, occurrences}
 use Rattle.laws.proofs.Sides.{seen-is}
+use Rattle.laws.proofs.Windows.{Small, windows-small}
 use Rattle.laws.proofs.Odd as odd
 use Rattle.laws.proofs.Readings.{reading-length}
 use Rattle.laws.proofs.Runs.{run-toured, run-at-most-once}
@@ -35,12 +34,12 @@ use Rattle.laws.proofs.Plain.{plain-bases}
 
 -- ---- counting in lists
 
-tally-append : (x : ℕ) (s t : List ℕ) → tally x (s ++ t) ≡ tally x s + tally x t
+pub tally-append : (x : ℕ) (s t : List ℕ) → tally x (s ++ t) ≡ tally x s + tally x t
 unfolding tally
 tally-append x [] t = omega arith
 tally-append x (y ∷ s) t = omega (arith, tally-append x s t)
 
-tally-reverse : (x : ℕ) (f : ℕ → ℕ) (s : List ℕ) → tally x (map f (reverse s)) ≡ tally x (map f s)
+pub tally-reverse : (x : ℕ) (f : ℕ → ℕ) (s : List ℕ) → tally x (map f (reverse s)) ≡ tally x (map f s)
 unfolding tally
 tally-reverse x f [] = refl
 tally-reverse x f (y ∷ s) =
@@ -50,20 +49,7 @@ tally-reverse x f (y ∷ s) =
 -- ---- k-mers
 
 module _ (K : ℕ) where
-  -- Every number is that of a k-mer.
-  abbrev pub Small : List ℕ → Type 0
-  Small [] = Unit {0}
-  Small (x ∷ xs) = (x < 4 ^ K) × Small xs
-
-  windows-small : (m : ℕ) (t : List ℕ) → 1 ≤ K → m + K ≤ suc (length t) → Bases t → Small (windowsFrom K m t)
-  unfolding windowsFrom
-  windows-small zero t one h b = tt
-  windows-small (suc m) [] one h b = absurd (omega arith)
-  windows-small (suc m) (x ∷ t) one h b =
-      let n : length (take K (x ∷ t)) ≡ K = length-take-le K (x ∷ t) (omega arith) in
-      (rw n at (packed-lt (take K (x ∷ t)) (bases-take K (x ∷ t) b)), windows-small m t one (omega arith) (b .1))
-
-  pub canon-turned : (xs : List ℕ) → Small xs → map (canon K) (map (rc K) xs) ≡ map (canon K) xs
+  pub canon-turned : (xs : List ℕ) → Small K xs → map (canon K) (map (rc K) xs) ≡ map (canon K) xs
   canon-turned [] h = refl
   canon-turned (x ∷ xs) h = ap₂ (λ (y : ℕ) (ys : List ℕ). y ∷ ys) (canon-rc K x (h .0)) (canon-turned xs (h .1))
 

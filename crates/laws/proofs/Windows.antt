@@ -1,13 +1,16 @@
 -- The windows of a text: of one put behind another, of a k-mer with bases behind it, and on the other strand. Assumes nothing.
 use mathlib.Core.Path.{_≡_, refl, sym, ap, ap₂, _∙_}
+use mathlib.Core.Logic.{⊎-elim}
 use mathlib.Core.List.{List, [], _∷_, _++_, map, reverse, append-assoc, reverse-cons, reverse-append, map-append}
-use Prim.Native.Nat.{ℕ, zero, suc, _+_, _-_, _*_, _≤_, _<_}
+use Prim.Native.Nat.{ℕ, zero, suc, _+_, _-_, _*_, _^_, _≤_, _<_}
 use native.Mathlib.Nat.{suc-add}
 use native.Mathlib.Omega.{arith}
 use lib.ListN.{length, take, drop, length-append, length-drop, take-append-drop}
 use lib.Seq.{take-at, drop-at, take-append-le, take-all, drop-nil, length-take-le}
-use Rattle.dna.specs.Letters.{codeOf, letterOf, complementLetter, reverseComplement}
-use Rattle.dna.proofs.Letters.{code-letter}
+use Rattle.lemmas.proofs.Numbers.{lt-or-ge}
+use Rattle.dna.specs.Text.{openText}
+use Rattle.dna.specs.Letters.{codeOf, letterOf, complement, complementLetter, reverseComplement, openLetters}
+use Rattle.dna.proofs.Letters.{code-le, code-letter}
 use Rattle.dna.proofs.Reversal.{length-reverseComplement}
 use Rattle.kmer.specs.Kmer.{packed, onto, rc, forward}
 use Rattle.kmer.proofs.Windows.{Bases, bases-take, bases-append, packed-cons, packed-snoc, packed-slide, packed-lt}
@@ -40,6 +43,29 @@ bases-turned (b ∷ s) h =
     let l : codeOf (complementLetter b) < 4 = omega (arith, code-complement b (h .0)) in
     rw (turn-cons b s) (bases-append (reverseComplement s) (complementLetter b ∷ []) (bases-turned s (h .1)) (l, tt))
 
+-- A byte that is no base is none on the other strand.
+none-turned : codeOf (letterOf (complement 4)) ≡ 4
+unfolding openText openLetters
+none-turned = refl
+
+base-back : (b : ℕ) → codeOf (complementLetter b) < 4 → codeOf b < 4
+base-back b h = ⊎-elim (λ l. l)
+    (λ l.
+    let e : codeOf b ≡ 4 = omega (arith, code-le b) in
+    let f : codeOf (complementLetter b) ≡ 4 = rw e none-turned in
+    omega arith)
+    (lt-or-ge (codeOf b) 4)
+
+bases-parts : (s t : List ℕ) → Bases (s ++ t) → Bases s × Bases t
+bases-parts [] t h = (tt, h)
+bases-parts (b ∷ s) t h = let p = bases-parts s t (h .1) in ((h .0, p .0), p .1)
+
+pub bases-back : (s : List ℕ) → Bases (reverseComplement s) → Bases s
+bases-back [] h = tt
+bases-back (b ∷ s) h =
+    let p = bases-parts (reverseComplement s) (complementLetter b ∷ []) (rw (turn-cons b s) at h) in
+    (base-back b (p .1 .0), bases-back s (p .0))
+
 -- The number of the reverse complement is the reverse complement of the number.
 pub packed-turned : (s : List ℕ) → Bases s → packed (reverseComplement s) ≡ rc (length s) (packed s)
 packed-turned [] h = unfold reverseComplement in unfold onto in unfold rc in refl
@@ -52,6 +78,19 @@ packed-turned (b ∷ s) h =
 -- ---- windows
 
 module _ (K : ℕ) where
+  -- Every number is that of a k-mer.
+  abbrev pub Small : List ℕ → Type 0
+  Small [] = Unit {0}
+  Small (x ∷ xs) = (x < 4 ^ K) × Small xs
+
+  pub windows-small : (m : ℕ) (t : List ℕ) → 1 ≤ K → m + K ≤ suc (length t) → Bases t → Small (windowsFrom K m t)
+  unfolding windowsFrom
+  windows-small zero t one h b = tt
+  windows-small (suc m) [] one h b = absurd (omega arith)
+  windows-small (suc m) (x ∷ t) one h b =
+      let n : length (take K (x ∷ t)) ≡ K = length-take-le K (x ∷ t) (omega arith) in
+      (rw n at (packed-lt (take K (x ∷ t)) (bases-take K (x ∷ t) b)), windows-small m t one (omega arith) (b .1))
+
   -- Windows that begin in a first text, and those of what stands behind it.
   pub windows-behind : (s t : List ℕ) (m : ℕ) → windowsFrom K (length s + m) (s ++ t) ≡ windowsFrom K (length s) (s ++ t) ++ windowsFrom K m t
   unfolding windowsFrom

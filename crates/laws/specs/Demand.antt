@@ -39,6 +39,14 @@ pub data Ascending : List (List ℕ) → Type 0 where
   asc-one : {l : List ℕ} → Ascending (l ∷ [])
   asc : {l m : List ℕ} {ls : List (List ℕ)} → before l m ≡ true → Ascending (m ∷ ls) → Ascending (l ∷ m ∷ ls)
 
+-- One repeated base.
+abbrev pub OneBase : ℕ → ℕ → Type 0
+OneBase K x = (c : ℕ) × (letters K x ≡ replicate K c)
+
+-- No k-mer at all.
+abbrev pub Nothing : ℕ → ℕ → Type 0
+Nothing K x = ⊥
+
 module _ (K : ℕ) (ks : List ℕ) (es : List Ends) where
   -- What is retained on a side of a k-mer, seen on either strand: E, a base, or N; E where it is not stored.
   unfoldable pub retained : ℕ → Side → ℕ
@@ -80,13 +88,10 @@ module _ (K : ℕ) (ks : List ℕ) (es : List Ends) where
     pub at-v : edge es v t < 4
     pub joins : Joins K ks u s (edge es u s) v t (edge es v t)
 
-  -- One repeated base.
-  abbrev pub OneBase : ℕ → Type 0
-  OneBase u = (c : ℕ) × (letters K (getD ks u 0) ≡ replicate K c)
-
-  -- The last sentence of demand 3.
-  abbrev pub Maximal : List (List ℕ) → Type 0
-  Maximal ls = (u v : ℕ) (s t : Side) → u < length ks → v < length ks → Sole u s v t → (u ≡ v → ⊥) → (OneBase u → ⊥) → (OneBase v → ⊥)
+  -- The last sentence of demand 3, some k-mers excepted.
+  abbrev pub Maximal : (ℕ → Type 0) → List (List ℕ) → Type 0
+  Maximal Excepted ls = (u v : ℕ) (s t : Side) → u < length ks → v < length ks → Sole u s v t → (u ≡ v → ⊥)
+      → (Excepted (getD ks u 0) → ⊥) → (Excepted (getD ks v 0) → ⊥)
       → Some (λ l. Together (getD ks u 0) (getD ks v 0) (map (canon K) (windowsOf K l))) ls
 
   -- All of demand 3 but its last sentence, in the customer's words, of a list of labels.
@@ -105,12 +110,13 @@ module _ (K : ℕ) (ks : List ℕ) (es : List Ends) where
     -- Not in the customer's words: every letter is A, C, G or T.
     pub letters : Each Plain ls
 
-  -- Demand 3.
-  pub record Demand3 (ls : List (List ℕ)) : Type 0 where
+  -- Demand 3. By document 01's rule its last sentence excepts the k-mers of one repeated base (`OneBase K`), by document 02's none
+  -- (`Nothing K`).
+  pub record Demand3 (Excepted : ℕ → Type 0) (ls : List (List ℕ)) : Type 0 where
     pub every : Always ls
     -- "If K is odd, two different stored k-mers, neither of one repeated base, whose edge is the only one retained on its side at
     -- both ends, are neighbours in a label or the two ends of one."
-    pub maximal : K % 2 ≡ 1 → Maximal ls
+    pub maximal : K % 2 ≡ 1 → Maximal Excepted ls
 
 -- Opens this file's definitions to a proof that computes.
 unfoldable pub openDemand : Unit {0}

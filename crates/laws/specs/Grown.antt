@@ -9,9 +9,9 @@ use Rattle.kmer.specs.Kmer.{canon, forward}
 use Rattle.state.specs.declared.Side.{Side}
 use Rattle.state.specs.Counted.{Kind, opposite}
 use Rattle.graph.specs.Sightings.{Sighting, Rule, window, windows, sightings}
-use Rattle.graph.specs.Table.{tableOf}
+use Rattle.graph.specs.Table.{Table, tableOf}
 use Rattle.graph.specs.Walks.{seen, leaving}
-use Rattle.graph.specs.Adding.{Edges, addLabel}
+use Rattle.graph.specs.Adding.{Edges, added, addLabel}
 
 -- A table grown from none stored: the labels that were added and not refused, last one first, and the number stored and the two
 -- slices as they are after them.
@@ -23,6 +23,11 @@ pub data Grown (κ : Kind) (rule : Rule) (K : ℕ) : List (List ℕ) → ℕ →
   -- The same vertices in other slices, or behind them other cells.
   moves : {ls : List (List ℕ)} {n : ℕ} {keys counts : List ℕ} → Grown κ rule K ls n keys counts
       → (keys′ counts′ : List ℕ) → tableOf n keys′ counts′ ≡ tableOf n keys counts → Grown κ rule K ls n keys′ counts′
+
+-- The table of some labels, the last one first.
+unfoldable pub grownTable : Kind → Rule → ℕ → List (List ℕ) → Table
+grownTable κ rule K [] = record { keys = []; counts = [] }
+grownTable κ rule K (l ∷ ls) = added κ rule K l (grownTable κ rule K ls)
 
 -- x is the canonical k-mer of one of a label's first m windows.
 unfoldable pub shows : ℕ → List ℕ → ℕ → ℕ → Bool
@@ -51,5 +56,5 @@ pub record Joins (K : ℕ) (ks : List ℕ) (u : ℕ) (s : Side) (b : ℕ) (v : �
 
 -- Opens this file's definitions to a proof that computes.
 unfoldable pub openGrown : Unit {0}
-unfolding shows seenIn times sightedIn
+unfolding grownTable shows seenIn times sightedIn
 openGrown = tt

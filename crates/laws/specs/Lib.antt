@@ -4,3 +4,4 @@ pub mod Tours
 pub mod Windows
 pub mod Demand
 pub mod Neighbours
+pub mod Strands

@@ -39,7 +39,14 @@ fn add(fd: i32, k: usize, before: After, keys: &mut [u64], counts: &mut [u32]) -
     }
     read::fill(fd, length, &mut label);
     answered(
-        adding::add_label(k, before.stored, keys, counts, &label[..length]),
+        adding::add_label(
+            adding::Mode::SameCanonical,
+            k,
+            before.stored,
+            keys,
+            counts,
+            &label[..length],
+        ),
         before.found,
     )
 }

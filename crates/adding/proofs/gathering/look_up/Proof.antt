@@ -5,6 +5,7 @@ use native.Mathlib.Omega.{arith}
 use Rattle.kmer.specs.Says.{valueOf}
 use Rattle.graph.specs.Table.{keysOf}
 use Rattle.directory.proofs.Confirmed.{found-by}
+use Rattle.adding.specs.Says.{ruleOf}
 use Rattle.adding.proofs.Coding.{code-small}
 use Rattle.adding.proofs.Finding.{finds-at, finds-gap, finds-below}
 use Rattle.adding.proofs.Looking.{Looking, looking-none, looking-known, looking-new, looking-all}
@@ -13,11 +14,11 @@ use Rattle.adding.proofs.gathering.look_up.Statement.{statement}
 use Rattle.adding.proofs.gathering.look_up.Tie as tie
 
 abbrev Inv-loop : tie.InvT-loop
-Inv-loop k label n keys directory notes₀ places₀ new-keys₀ offsets₀ new₀ previous₀ o₀ end notes places new-keys offsets new previous o =
-    Looking k label (keysOf n keys) notes₀ places₀ new-keys₀ offsets₀ o new (valueOf previous) notes places new-keys offsets
+Inv-loop mode k label n keys directory notes₀ places₀ new-keys₀ offsets₀ new₀ previous₀ o₀ end notes places new-keys offsets new previous o =
+    Looking (ruleOf mode) k label (keysOf n keys) notes₀ places₀ new-keys₀ offsets₀ o new previous notes places new-keys offsets
 
 abbrev μ-loop : tie.MeasureT-loop
-μ-loop k label n keys directory notes₀ places₀ new-keys₀ offsets₀ new₀ previous₀ o₀ end notes places new-keys offsets new previous o =
+μ-loop mode k label n keys directory notes₀ places₀ new-keys₀ offsets₀ new₀ previous₀ o₀ end notes places new-keys offsets new previous o =
     end - o
 
 sub-end : tie.Need-sub-end Inv-loop μ-loop
@@ -27,7 +28,7 @@ add-end : tie.Need-add-end Inv-loop μ-loop
 add-end c = record { fits = omega (arith, c .before .before .before .before .before .before .before .before .pre .given .short) }
 
 loop-holds : tie.Need-loop-holds Inv-loop μ-loop
-loop-holds c = looking-none (c .before .before .before .before .before .before .before .before .pre)
+loop-holds c = looking-none (ruleOf (c .before .before .before .before .before .before .before .before .args .mode)) (c .before .before .before .before .before .before .before .before .pre)
 
 see-requires : tie.Need-see-requires Inv-loop μ-loop
 see-requires c κs =
@@ -40,8 +41,7 @@ code-of-requires c κs =
     let g = turn .before .before .before .before .before .before .before .before .before .before .pre .given in (
       g,
       omega (arith, g .long, turn .loop-test .taken),
-      c .see .ensures,
-      record { previous = turn .before .loop .inv .previous; here = c .see .ensures .kmer },
+      record { previous = turn .before .loop .inv .previous; here = c .see .ensures },
     )
 
 slice-write-notes : tie.Need-slice-write-notes Inv-loop μ-loop
@@ -76,8 +76,8 @@ loop-again c =
     let told-by =
     found-by (s .args .k) (keysOf (s .args .n) (s .args .keys .now)) (s .pre .fits) (s .args .k) (s .args .directory .now)
     (valueOf (seen .see .result .kmer)) in
-    looking-known (s .pre) (turn .before .loop .inv) (omega (arith, s .pre .given .long, turn .loop-test .taken))
-    (seen .see .ensures .kmer) (found .before .before .code-of .ensures)
+    looking-known (ruleOf (s .args .mode)) (s .pre) (turn .before .loop .inv) (omega (arith, s .pre .given .long, turn .loop-test .taken))
+    (seen .see .ensures) (found .before .before .code-of .ensures)
     (finds-at (s .args .k) _ _ (s .pre .fits) (found .find .ensures ∙ told-by) (c .before .i .given .1))
 
 add-notes : tie.Need-add-notes Inv-loop μ-loop
@@ -85,7 +85,7 @@ add-notes c =
     let asked = c .before .before .before .before .before in
     let s = asked .before .before .before .before .before .before .before .before .before .before .before .before in
     record {
-      fits = omega (arith, asked .code-of .ensures, code-small (s .args .k) (s .args .label .now) (asked .before .before .before .loop .o));
+      fits = omega (arith, asked .code-of .ensures, code-small (s .args .k) (s .args .label .now) (asked .before .before .before .loop .o) (ruleOf (s .args .mode)));
     }
 
 slice-write-notes-2 : tie.Need-slice-write-notes-2 Inv-loop μ-loop
@@ -167,8 +167,8 @@ loop-again-2 c =
     let told-by =
     found-by (s .args .k) (keysOf (s .args .n) (s .args .keys .now)) (s .pre .fits) (s .args .k) (s .args .directory .now)
     (valueOf (seen .see .result .kmer)) in
-    looking-new (s .pre) (turn .before .loop .inv) (omega (arith, s .pre .given .long, turn .loop-test .taken))
-    (seen .see .ensures .kmer) (found .before .before .code-of .ensures)
+    looking-new (ruleOf (s .args .mode)) (s .pre) (turn .before .loop .inv) (omega (arith, s .pre .given .long, turn .loop-test .taken))
+    (seen .see .ensures) (found .before .before .code-of .ensures)
     (finds-gap (s .args .k) _ _ (s .pre .fits) (found .find .ensures ∙ told-by) (told .before .i2 .given .1)) (put .put-key .ensures)
 
 same-length : tie.Need-same-length Inv-loop μ-loop
@@ -185,8 +185,9 @@ same-length-4 c = c .before .loop .inv .long-offsets
 
 returns : tie.Need-returns Inv-loop μ-loop
 returns c =
-    let y = c .before .before .before .before .before .before .before .before .before .before .pre in
-    looking-all y (c .before .loop .inv) (omega (arith, y .given .long, c .loop-test .left))
+    let s = c .before .before .before .before .before .before .before .before .before .before in
+    let y = s .pre in
+    looking-all (ruleOf (s .args .mode)) y (c .before .loop .inv) (omega (arith, y .given .long, c .loop-test .left))
 
 pub look-up-spec : {M : Type 1} → statement M
 look-up-spec =

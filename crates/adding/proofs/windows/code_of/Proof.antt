@@ -1,5 +1,6 @@
 -- Both neighbours are at most 5, so they fit a byte. Assumes nothing.
 use native.Mathlib.Omega.{arith}
+use Rattle.adding.specs.Says.{ruleOf}
 use Rattle.adding.proofs.Neighbours.{straight-code, turned-code}
 use Rattle.adding.proofs.Coding.{predecessor-most, successor-most, complement-most}
 use borrow.Author.Needs.{needs}
@@ -9,7 +10,7 @@ use Rattle.adding.proofs.windows.code_of.Tie as tie
 before-of-requires : tie.Need-before-of-requires
 before-of-requires c κs =
     let s = c .before in
-    (s .pre .0, s .pre .1, s .pre .3)
+    s .pre
 
 mul-result : tie.Need-mul-result
 mul-result c =
@@ -25,28 +26,28 @@ add-result c =
         c .before .after-of .ensures,
         c .before .before .before-of .ensures,
         successor-most (s .args .k) (s .args .label .now) (s .args .o),
-        predecessor-most (s .args .k) (s .args .label .now) (s .args .o),
+        predecessor-most (s .args .k) (s .args .label .now) (s .args .o) (ruleOf (s .args .mode)),
       );
     }
 
 returns : tie.Need-returns
 returns c =
     let s = c .before .before .before .before in
-    straight-code (s .args .k) (s .args .label .now) (s .args .o) (c .before .before .before-of .ensures)
-    (c .before .after-of .ensures) (s .pre .2 .straight) (c .if1 .taken)
+    straight-code (ruleOf (s .args .mode)) (s .args .k) (s .args .label .now) (s .args .o) (c .before .before .before-of .ensures)
+    (c .before .after-of .ensures) (s .pre .2 .here .straight) (c .if1 .taken)
 
 mul-result-2 : tie.Need-mul-result-2
 mul-result-2 c =
     let asked = c .before .before in
     let s = asked .before .before .before .before in
-    let p = predecessor-most (s .args .k) (s .args .label .now) (s .args .o) in
+    let p = predecessor-most (s .args .k) (s .args .label .now) (s .args .o) (ruleOf (s .args .mode)) in
     record { fits = omega (arith, complement-most (c .other2 .ensures) (asked .before .before .before-of .ensures) p) }
 
 add-result-2 : tie.Need-add-result-2
 add-result-2 c =
     let asked = c .before .before in
     let s = asked .before .before .before .before in
-    let p = predecessor-most (s .args .k) (s .args .label .now) (s .args .o) in
+    let p = predecessor-most (s .args .k) (s .args .label .now) (s .args .o) (ruleOf (s .args .mode)) in
     let q = successor-most (s .args .k) (s .args .label .now) (s .args .o) in
     record {
       fits = omega (
@@ -60,8 +61,8 @@ returns-2 : tie.Need-returns-2
 returns-2 c =
     let asked = c .before .before in
     let s = asked .before .before .before .before in
-    turned-code (s .args .k) (s .args .label .now) (s .args .o) (asked .before .before .before-of .ensures)
-    (asked .before .after-of .ensures) (s .pre .2 .straight) (asked .if1 .left) (c .other2 .ensures) (c .before .other .ensures)
+    turned-code (ruleOf (s .args .mode)) (s .args .k) (s .args .label .now) (s .args .o) (asked .before .before .before-of .ensures)
+    (asked .before .after-of .ensures) (s .pre .2 .here .straight) (asked .if1 .left) (c .other2 .ensures) (c .before .other .ensures)
 
 pub code-of-spec : {M : Type 1} → statement M
 code-of-spec =
