@@ -1,5 +1,7 @@
-// Times this library and the Rust original side by side, in one process, on the same labels, and prints the ratio of their times: below 1 this library
-// is faster. Lent buffers are made and filled with ones before the clock starts. Each time is the least of several runs. The lists are compared byte by byte.
+// bench VERTICES [KIND]: times this library and the Rust original side by side, in one process, on the same labels, and prints the ratio of their times:
+// below 1 this library is faster. Lent buffers are made and filled with ones before the clock starts. Each time is the least of several runs. The lists
+// are compared byte by byte. KIND is that of the library's tables: 0, as where none is given, counts; 1 presence bits, with the cases of cutoff 1 alone.
+// The original's graph is its counted one for both. A process times one kind, since of two the one that runs more often would read faster.
 use crate::cases::{turned, Dice};
 use crate::library::*;
 use crate::uncolored::Graph;
@@ -11,6 +13,7 @@ const TURNS: usize = 4;
 
 struct Case {
     name: &'static str,
+    kind: u32,
     k: usize,
     n: usize,
     cutoff: u32,
@@ -63,9 +66,9 @@ fn edges(dice: &mut Dice, k: usize, n: usize) -> Vec<Vec<u8>> {
     random(dice, n + k - 1).windows(k + 1).map(|w| w.to_vec()).collect()
 }
 
-fn cases(k: usize, n: usize) -> Vec<Case> {
+fn cases(kind: u32, k: usize, n: usize) -> Vec<Case> {
     let dice = &mut Dice::new((k * n) as u64);
-    let case = |name, cutoff, labels| Case { name, k, n, cutoff, labels };
+    let case = |name, cutoff, labels| Case { name, kind, k, n, cutoff, labels };
     let skewed = |dice: &mut Dice, length: usize| -> Vec<u8> {
         match dice.below(3) {
             0 => (0..length).map(|_| if dice.below(10) == 0 { dice.pick(b"CG") } else { dice.pick(b"AT") }).collect(),
@@ -76,7 +79,7 @@ fn cases(k: usize, n: usize) -> Vec<Case> {
             }
         }
     };
-    vec![
+    let mut all = vec![
         case("random, 400 windows", 1, texts(dice, k, n, k + 399, random)),
         case("reads", 1, reads(dice, k, n)),
         case("labels of 4,096", 1, texts(dice, k, n, 4096, random)),
@@ -84,7 +87,10 @@ fn cases(k: usize, n: usize) -> Vec<Case> {
         case("unitigs of two vertices", 1, texts(dice, k, n, k + 1, random)),
         case("random, cutoff 0", 0, texts(dice, k, n, k + 399, random)),
         case("skewed", 1, texts(dice, k, n, k + 399, skewed)),
-    ]
+    ];
+    // Presence bits answer for cutoff 1 alone.
+    all.retain(|c| kind == 0 || c.cutoff == 1);
+    all
 }
 
 // Nanoseconds of adding and of contraction, the FASTA, and nanoseconds of adding by one call.
@@ -116,7 +122,7 @@ fn grown(c: &Case) -> (Table, f64) {
     let begin = Instant::now();
     for label in &c.labels {
         let r = unsafe {
-            lash_add_label(0, c.k, n, keys.as_mut_ptr(), keys.len(), counts.as_mut_ptr(), counts.len(), label.as_ptr(), label.len(), figures.as_mut_ptr(), 2)
+            lash_add_label(c.kind, 0, c.k, n, keys.as_mut_ptr(), keys.len(), counts.as_mut_ptr(), counts.len(), label.as_ptr(), label.len(), figures.as_mut_ptr(), 2)
         };
         assert_eq!(r, 0);
         n = figures[1] as usize;
@@ -134,7 +140,7 @@ fn grown_at_once(c: &Case, t: &Table) -> f64 {
     let begin = Instant::now();
     let r = unsafe {
         lash_add_labels(
-            0, c.k, 0, keys.as_mut_ptr(), keys.len(), counts.as_mut_ptr(), counts.len(), text.as_ptr(), text.len(), starts.as_ptr(), starts.len(),
+            c.kind, 0, c.k, 0, keys.as_mut_ptr(), keys.len(), counts.as_mut_ptr(), counts.len(), text.as_ptr(), text.len(), starts.as_ptr(), starts.len(),
             lengths.as_ptr(), lengths.len(), lengths.len(), totals.as_mut_ptr(), 2, [0u64; 2].as_mut_ptr(), 2,
         )
     };
@@ -151,7 +157,7 @@ fn contracted(c: &Case, t: &Table) -> (f64, Vec<u8>) {
     let begin = Instant::now();
     let r = unsafe {
         lash_contract(
-            c.k, c.cutoff, t.n, t.keys.as_ptr(), t.keys.len(), t.counts.as_ptr(), t.counts.len(), labels.as_mut_ptr(), labels.len(),
+            c.kind, c.k, c.cutoff, t.n, t.keys.as_ptr(), t.keys.len(), t.counts.as_ptr(), t.counts.len(), labels.as_mut_ptr(), labels.len(),
             starts.as_mut_ptr(), starts.len(), lengths.as_mut_ptr(), lengths.len(), marks.as_mut_ptr(), marks.len(), figures.as_mut_ptr(), 2,
         )
     };
@@ -221,8 +227,9 @@ impl Row {
 
 pub fn main() {
     let most: usize = std::env::args().nth(1).and_then(|s| s.parse().ok()).unwrap_or(65536);
+    let kind: u32 = std::env::args().nth(2).map_or(0, |s| s.parse().unwrap());
     let sizes = [1024, 16384, 65536].into_iter().filter(|n| *n <= most);
-    let all = sizes.flat_map(|n| [15, 31, 33, 63].into_iter().flat_map(move |k| cases(k, n)));
+    let all = sizes.flat_map(|n| [15, 31, 33, 63].into_iter().flat_map(move |k| cases(kind, k, n)));
     let mut rows: Vec<Row> = all.map(|case| Row { case, table: None, least: None }).collect();
     for _ in 0..ROUNDS {
         for row in &mut rows {

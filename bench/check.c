@@ -1,4 +1,4 @@
-/* Calls the C interface on examples of document 01 and prints "check: ok", or what differs.
+/* Calls the C interface on examples of documents 01 and 02 and prints "check: ok", or what differs.
  * cc -Iinclude bench/check.c OBJECT -o check, where OBJECT has the functions of crate capi. */
 #include "lashgranary.h"
 #include <stdio.h>
@@ -23,11 +23,148 @@ static void same_bytes(const char *what, const void *got, const void *wanted, si
     }
 }
 
+/* A table of presence bits with room for four vertices, and what its contraction is lent. */
+static uint64_t bit_keys[8], bit_figures[2];
+static uint32_t bits[4], bit_starts[4], bit_lengths[4];
+static uint8_t bit_labels[12], bit_marks[4];
+
+static const uint8_t acccc[] = {'A', 'C', 'C', 'C', 'C'};
+
+/* Contracts its first two vertices. */
+static uint32_t contract_bits(uint32_t kind, size_t k, uint32_t cutoff, size_t marks_len) {
+    memset(bit_labels, UNTOUCHED, sizeof bit_labels);
+    memset(bit_starts, UNTOUCHED, sizeof bit_starts);
+    memset(bit_lengths, UNTOUCHED, sizeof bit_lengths);
+    memset(bit_marks, UNTOUCHED, sizeof bit_marks);
+    memset(bit_figures, UNTOUCHED, sizeof bit_figures);
+    return lash_contract(kind, k, cutoff, 2, bit_keys, LEN(bit_keys), bits, LEN(bits), bit_labels, LEN(bit_labels), bit_starts,
+                         LEN(bit_starts), bit_lengths, LEN(bit_lengths), bit_marks, marks_len, bit_figures, LEN(bit_figures));
+}
+
+/* It is refused, and nothing lent is touched; refusal 1 notes its K. */
+static void refuses(const char *what, uint32_t kind, size_t k, uint32_t cutoff, size_t marks_len, uint32_t wanted) {
+    uint8_t untouched[sizeof bit_starts];
+    memset(untouched, UNTOUCHED, sizeof untouched);
+    same(what, contract_bits(kind, k, cutoff, marks_len), wanted);
+    same_bytes("a refused contraction's labels", bit_labels, untouched, sizeof bit_labels);
+    same_bytes("its starts", bit_starts, untouched, sizeof bit_starts);
+    same_bytes("its lengths", bit_lengths, untouched, sizeof bit_lengths);
+    same_bytes("its marks", bit_marks, untouched, sizeof bit_marks);
+    if (wanted != 1) same_bytes("its figures", bit_figures, untouched, sizeof bit_figures);
+}
+
+/* The list is ACCC alone. */
+static void gives_accc(const char *what, uint32_t kind) {
+    same(what, contract_bits(kind, 3, 1, LEN(bit_marks)), 0);
+    same("its number of labels", bit_figures[0], 1);
+    same("their bases", bit_figures[1], 4);
+    same_bytes("its label", bit_labels, "ACCC", 4);
+    same("its start", bit_starts[0], 0);
+    same("its length", bit_lengths[0], 4);
+    same_bytes("its marks", bit_marks, (const uint8_t[]){1, 1, UNTOUCHED, UNTOUCHED}, sizeof bit_marks);
+}
+
+/* Adds ACCCC to an empty table whose slices are full of ones. */
+static void add_acccc(const char *what, uint32_t kind, uint32_t mode, uint32_t second) {
+    memset(bit_keys, 0xff, sizeof bit_keys);
+    memset(bits, 0xff, sizeof bits);
+    same(what, lash_add_label(kind, mode, 3, 0, bit_keys, LEN(bit_keys), bits, LEN(bits), acccc, LEN(acccc), bit_figures, 2), 0);
+    same("its edges", bit_figures[0], 2);
+    same("the number stored", bit_figures[1], 2);
+    same_bytes("its keys", bit_keys, (const uint64_t[]){5, 0, 21, 0, UINT64_MAX, UINT64_MAX, UINT64_MAX, UINT64_MAX}, sizeof bit_keys);
+    same_bytes("its words", bits, (const uint32_t[]){0x100, second, UINT32_MAX, UINT32_MAX}, sizeof bits);
+}
+
+/* A stray bit in a word makes the table unfit for every call, which is said before a wrong cutoff. */
+static void stray_bit(size_t word, uint32_t bit) {
+    const uint32_t start[] = {0}, length[] = {5};
+    uint64_t keys_before[8], totals[2] = {UNTOUCHED, UNTOUCHED};
+    uint32_t bits_before[4];
+    add_acccc("adding ACCCC before a stray bit", 1, 0, 0x108);
+    bits[word] |= bit;
+    memcpy(keys_before, bit_keys, sizeof bit_keys);
+    memcpy(bits_before, bits, sizeof bits);
+    refuses("contracting with a stray bit", 1, 3, 1, LEN(bit_marks), 5);
+    refuses("contracting with a stray bit at cutoff 2", 1, 3, 2, 1, 5);
+    refuses("contracting with a stray bit at K = 64", 1, 64, 2, 1, 1);
+    same("adding to a stray bit",
+         lash_add_label(1, 0, 3, 2, bit_keys, LEN(bit_keys), bits, LEN(bits), acccc, LEN(acccc), bit_figures, 2), 5);
+    same("adding to a stray bit by the other call",
+         lash_add_labels(1, 0, 3, 2, bit_keys, LEN(bit_keys), bits, LEN(bits), acccc, LEN(acccc), start, 1, length, 1, 1, totals, 2,
+                         bit_figures, 2), 5);
+    same("the labels added then", totals[0], 0);
+    same("the number stored then", totals[1], 2);
+    same_bytes("the keys then", bit_keys, keys_before, sizeof bit_keys);
+    same_bytes("the words then", bits, bits_before, sizeof bits);
+    same("adding to it as counts",
+         lash_add_label(0, 0, 3, 2, bit_keys, LEN(bit_keys), bits, LEN(bits), acccc, LEN(acccc), bit_figures, 2), 0);
+}
+
+/* Labels added one by one, and by one call: the same table. */
+static void one_call(uint32_t kind, uint32_t mode) {
+    const uint8_t text[] = {'A', 'C', 'C', 'C', 'C', 'g', 'g', 'g', 'u', 'A', 'A', 'C', 'C', 'A'};
+    const uint32_t starts[] = {0, 5, 9, 2}, lengths[] = {5, 4, 5, 2};
+    uint64_t keys[16], all_keys[16], figures[2] = {0, 0}, all_figures[2], totals[2];
+    uint32_t words[8], all_words[8];
+    memset(keys, 0xff, sizeof keys);
+    memset(words, 0xff, sizeof words);
+    memset(all_keys, 0xff, sizeof all_keys);
+    memset(all_words, 0xff, sizeof all_words);
+    for (size_t i = 0; i < LEN(starts); i++) {
+        same("adding a label",
+             lash_add_label(kind, mode, 3, figures[1], keys, LEN(keys), words, LEN(words), text + starts[i], lengths[i], figures, 2), 0);
+    }
+    same("adding all",
+         lash_add_labels(kind, mode, 3, 0, all_keys, LEN(all_keys), all_words, LEN(all_words), text, LEN(text), starts, LEN(starts),
+                         lengths, LEN(lengths), LEN(starts), totals, 2, all_figures, 2), 0);
+    same("the labels added", totals[0], LEN(starts));
+    same("the number stored after them", totals[1], figures[1]);
+    same_bytes("the last label's figures", all_figures, figures, sizeof figures);
+    same_bytes("the keys of all", all_keys, keys, sizeof keys);
+    same_bytes("the words of all", all_words, words, sizeof words);
+}
+
+/* Q-1 of document 02: ACCCC gives ACC 100, CCC 108 and the list of the counts, at cutoff 1 alone. Every number but 0 names the kind. */
+static void presence_bits(void) {
+    add_acccc("adding ACCCC as presence bits", 1, 0, 0x108);
+    add_acccc("adding ACCCC as kind 7", 7, 0, 0x108);
+    add_acccc("adding ACCCC as the last kind", UINT32_MAX, 0, 0x108);
+    same("adding ACCCC again",
+         lash_add_label(1, 0, 3, 2, bit_keys, LEN(bit_keys), bits, LEN(bits), acccc, LEN(acccc), bit_figures, 2), 0);
+    same_bytes("the words then", bits, (const uint32_t[]){0x100, 0x108, UINT32_MAX, UINT32_MAX}, sizeof bits);
+    gives_accc("contracting presence bits", 1);
+    gives_accc("contracting kind 7", 7);
+    gives_accc("contracting the last kind", UINT32_MAX);
+    refuses("contracting presence bits at cutoff 0", 1, 3, 0, LEN(bit_marks), 15);
+    refuses("contracting presence bits at cutoff 2", 1, 3, 2, LEN(bit_marks), 15);
+    refuses("contracting kind 7 at cutoff 2", 7, 3, 2, LEN(bit_marks), 15);
+    refuses("contracting the last kind at cutoff 0", UINT32_MAX, 3, 0, LEN(bit_marks), 15);
+    refuses("contracting presence bits at the last cutoff with one mark", 1, 3, UINT32_MAX, 1, 15);
+    refuses("contracting presence bits with one mark", 1, 3, 1, 1, 7);
+    refuses("contracting presence bits at K = 64", 1, 64, 2, 1, 1);
+    same("its K", bit_figures[0], 64);
+    stray_bit(0, 1);
+    stray_bit(1, 1);
+    stray_bit(0, 1 << 11);
+    stray_bit(1, 1 << 11);
+    one_call(0, 0);
+    one_call(0, 1);
+    one_call(1, 0);
+    one_call(1, 1);
+
+    /* In the mode for reads from both strands: ACC and CCC. */
+    add_acccc("adding ACCCC as presence bits in mode 1", 1, 1, 0x118);
+    same("contracting them", contract_bits(1, 3, 1, LEN(bit_marks)), 0);
+    same("their labels", bit_figures[0], 2);
+    same_bytes("their bases", bit_labels, "ACCCCC", 6);
+    same_bytes("their lengths", bit_lengths, (const uint32_t[]){3, 3}, 2 * sizeof bit_lengths[0]);
+}
+
 int main(void) {
     uint64_t keys[32], keys_before[32], figures[3];
     uint32_t counts[16], counts_before[16], starts[16], lengths[16];
     uint8_t labels[48], marks[16], out[64];
-    const uint8_t acccc[] = {'A', 'C', 'C', 'C', 'C'}, accn[] = {'A', 'C', 'C', 'N'};
+    const uint8_t accn[] = {'A', 'C', 'C', 'N'};
     memset(keys, 0, sizeof keys);
     memset(counts, 0, sizeof counts);
     memset(marks, UNTOUCHED, sizeof marks);
@@ -35,7 +172,7 @@ int main(void) {
     for (size_t i = 0; i < LEN(figures); i++) figures[i] = UNTOUCHED;
 
     /* P1: 2 edges; ACC 00100000, CCC 00100001; output ACCC. */
-    same("adding ACCCC", lash_add_label(0, 3, 0, keys, LEN(keys), counts, LEN(counts), acccc, LEN(acccc), figures, LEN(figures)), 0);
+    same("adding ACCCC", lash_add_label(0, 0, 3, 0, keys, LEN(keys), counts, LEN(counts), acccc, LEN(acccc), figures, LEN(figures)), 0);
     same("its edges", figures[0], 2);
     same("the number stored", figures[1], 2);
     same("the cell past the figures", figures[2], UNTOUCHED);
@@ -45,7 +182,7 @@ int main(void) {
     same("the second count", counts[1], 0x00100001);
     size_t n = figures[1];
     same("contracting",
-         lash_contract(3, 1, n, keys, LEN(keys), counts, LEN(counts), labels, LEN(labels), starts, LEN(starts), lengths, LEN(lengths),
+         lash_contract(0, 3, 1, n, keys, LEN(keys), counts, LEN(counts), labels, LEN(labels), starts, LEN(starts), lengths, LEN(lengths),
                        marks, LEN(marks), figures, LEN(figures)), 0);
     same("the number of labels", figures[0], 1);
     same("their bases", figures[1], 4);
@@ -62,9 +199,9 @@ int main(void) {
     /* P11 and P8: refusals, which leave the table as it is. */
     memcpy(keys_before, keys, sizeof keys);
     memcpy(counts_before, counts, sizeof counts);
-    same("adding at K = 64", lash_add_label(0, 64, n, keys, LEN(keys), counts, LEN(counts), acccc, LEN(acccc), figures, LEN(figures)), 1);
+    same("adding at K = 64", lash_add_label(0, 0, 64, n, keys, LEN(keys), counts, LEN(counts), acccc, LEN(acccc), figures, LEN(figures)), 1);
     same("its K", figures[0], 64);
-    same("adding ACCN", lash_add_label(0, 3, n, keys, LEN(keys), counts, LEN(counts), accn, LEN(accn), figures, LEN(figures)), 3);
+    same("adding ACCN", lash_add_label(0, 0, 3, n, keys, LEN(keys), counts, LEN(counts), accn, LEN(accn), figures, LEN(figures)), 3);
     same("its place", figures[0], 3);
     same("its byte", figures[1], 78);
     same_bytes("the keys after refusals", keys, keys_before, sizeof keys);
@@ -78,7 +215,7 @@ int main(void) {
     memset(many_keys, 0, sizeof many_keys);
     memset(many_counts, 0, sizeof many_counts);
     same("adding three labels",
-         lash_add_labels(0, 3, 0, many_keys, LEN(many_keys), many_counts, LEN(many_counts), text, LEN(text), from, LEN(from), size, LEN(size),
+         lash_add_labels(0, 0, 3, 0, many_keys, LEN(many_keys), many_counts, LEN(many_counts), text, LEN(text), from, LEN(from), size, LEN(size),
                          3, totals, LEN(totals), figures, LEN(figures)), 3);
     same("the labels added", totals[0], 1);
     same("the number stored after them", totals[1], 2);
@@ -88,12 +225,12 @@ int main(void) {
     same_bytes("the keys after one label", many_keys, keys, sizeof keys);
     same_bytes("the counts after one label", many_counts, counts, sizeof counts);
     same("adding past the text",
-         lash_add_labels(0, 3, 2, many_keys, LEN(many_keys), many_counts, LEN(many_counts), text, LEN(text) - 1, from, LEN(from), size, LEN(size),
+         lash_add_labels(0, 0, 3, 2, many_keys, LEN(many_keys), many_counts, LEN(many_counts), text, LEN(text) - 1, from, LEN(from), size, LEN(size),
                          3, totals, LEN(totals), figures, LEN(figures)), 12);
     same("the labels added then", totals[0], 0);
     same("the number stored then", totals[1], 2);
     same("adding past the index",
-         lash_add_labels(0, 3, 2, many_keys, LEN(many_keys), many_counts, LEN(many_counts), text, LEN(text), from, LEN(from), size, LEN(size),
+         lash_add_labels(0, 0, 3, 2, many_keys, LEN(many_keys), many_counts, LEN(many_counts), text, LEN(text), from, LEN(from), size, LEN(size),
                          4, totals, LEN(totals), figures, LEN(figures)), 12);
     same_bytes("the keys after 12", many_keys, keys, sizeof keys);
     same_bytes("the counts after 12", many_counts, counts, sizeof counts);
@@ -103,16 +240,16 @@ int main(void) {
     const uint8_t aaa[] = {'A', 'A', 'A'};
     uint64_t three_keys[6];
     uint32_t three_counts[3];
-    same("adding AAA where there is no room", lash_add_label(0, 3, n, keys, 2 * n, counts, n, aaa, LEN(aaa), figures, LEN(figures)), 6);
+    same("adding AAA where there is no room", lash_add_label(0, 0, 3, n, keys, 2 * n, counts, n, aaa, LEN(aaa), figures, LEN(figures)), 6);
     memcpy(three_keys, keys, 2 * n * sizeof *keys);
     memcpy(three_counts, counts, n * sizeof *counts);
     same("adding AAA where there is",
-         lash_add_label(0, 3, n, three_keys, LEN(three_keys), three_counts, LEN(three_counts), aaa, LEN(aaa), figures, LEN(figures)), 0);
+         lash_add_label(0, 0, 3, n, three_keys, LEN(three_keys), three_counts, LEN(three_counts), aaa, LEN(aaa), figures, LEN(figures)), 0);
     same("the number stored then", figures[1], 3);
     same_bytes("the keys then", three_keys, (const uint64_t[]){0, 0, 5, 0, 21, 0}, sizeof three_keys);
     same_bytes("the counts then", three_counts, (const uint32_t[]){0, 0x00100000, 0x00100001}, sizeof three_counts);
     same("contracting three vertices",
-         lash_contract(3, 1, 3, three_keys, LEN(three_keys), three_counts, LEN(three_counts), labels, 9, starts, 3, lengths, 3, marks, 3, figures,
+         lash_contract(0, 3, 1, 3, three_keys, LEN(three_keys), three_counts, LEN(three_counts), labels, 9, starts, 3, lengths, 3, marks, 3, figures,
                        LEN(figures)), 0);
     same("the number of labels then", figures[0], 1);
     same_bytes("their bases then", labels, "ACCC", 4);
@@ -126,32 +263,33 @@ int main(void) {
     uint64_t loop_keys[4], other_keys[4];
     uint32_t loops[2], others[2], list_starts[2], list_lengths[2];
     uint8_t list[6], list_marks[2];
-    same("adding ACCCC in mode 1", lash_add_label(1, 3, 0, loop_keys, 4, loops, 2, acccc, LEN(acccc), figures, LEN(figures)), 0);
+    same("adding ACCCC in mode 1", lash_add_label(0, 1, 3, 0, loop_keys, 4, loops, 2, acccc, LEN(acccc), figures, LEN(figures)), 0);
     same("its edges", figures[0], 2);
     same_bytes("its keys", loop_keys, keys, sizeof loop_keys);
     same_bytes("its counts", loops, loop_counts, sizeof loops);
     same("adding ggggu in mode 7",
-         lash_add_labels(7, 3, 0, other_keys, 4, others, 2, ggggt, LEN(ggggt), one_start, 1, one_length, 1, 1, totals, LEN(totals), figures, LEN(figures)), 0);
+         lash_add_labels(0, 7, 3, 0, other_keys, 4, others, 2, ggggt, LEN(ggggt), one_start, 1, one_length, 1, 1, totals, LEN(totals),
+                         figures, LEN(figures)), 0);
     same_bytes("its keys", other_keys, loop_keys, sizeof other_keys);
     same_bytes("its counts", others, loops, sizeof others);
-    same("adding ggggu to ACCCC", lash_add_label(UINT32_MAX, 3, 2, loop_keys, 4, loops, 2, ggggt, LEN(ggggt), figures, LEN(figures)), 0);
+    same("adding ggggu to ACCCC", lash_add_label(0, UINT32_MAX, 3, 2, loop_keys, 4, loops, 2, ggggt, LEN(ggggt), figures, LEN(figures)), 0);
     same_bytes("the counts of both", loops, both_counts, sizeof loops);
     same("contracting them",
-         lash_contract(3, 1, 2, loop_keys, 4, loops, 2, list, 6, list_starts, 2, list_lengths, 2, list_marks, 2, figures, LEN(figures)), 0);
+         lash_contract(0, 3, 1, 2, loop_keys, 4, loops, 2, list, 6, list_starts, 2, list_lengths, 2, list_marks, 2, figures, LEN(figures)), 0);
     same("their labels", figures[0], 2);
     same_bytes("their bases", list, "ACCCCC", 6);
     same_bytes("their lengths", list_lengths, (const uint32_t[]){3, 3}, sizeof list_lengths);
 
     /* Other refusals, and figures without room. */
     same("contracting at K = 64",
-         lash_contract(64, 1, n, keys, LEN(keys), counts, LEN(counts), labels, LEN(labels), starts, LEN(starts), lengths, LEN(lengths),
+         lash_contract(0, 64, 1, n, keys, LEN(keys), counts, LEN(counts), labels, LEN(labels), starts, LEN(starts), lengths, LEN(lengths),
                        marks, LEN(marks), figures, LEN(figures)), 1);
     same("its K", figures[0], 64);
     same("contracting with one mark",
-         lash_contract(3, 1, n, keys, LEN(keys), counts, LEN(counts), labels, LEN(labels), starts, LEN(starts), lengths, LEN(lengths),
+         lash_contract(0, 3, 1, n, keys, LEN(keys), counts, LEN(counts), labels, LEN(labels), starts, LEN(starts), lengths, LEN(lengths),
                        marks, 1, figures, LEN(figures)), 7);
     same("contracting without room",
-         lash_contract(3, 1, n, keys, LEN(keys), counts, LEN(counts), labels, 3, starts, LEN(starts), lengths, LEN(lengths),
+         lash_contract(0, 3, 1, n, keys, LEN(keys), counts, LEN(counts), labels, 3, starts, LEN(starts), lengths, LEN(lengths),
                        marks, LEN(marks), figures, LEN(figures)), 9);
     same("the first mark then", marks[0], 0);
     same("FASTA without room",
@@ -159,9 +297,11 @@ int main(void) {
     same("FASTA past the index",
          lash_write_fasta(labels, LEN(labels), starts, LEN(starts), lengths, LEN(lengths), 17, out, LEN(out), figures, LEN(figures)), 12);
     figures[0] = figures[1] = UNTOUCHED;
-    same("adding ACCN", lash_add_label(0, 3, n, keys, LEN(keys), counts, LEN(counts), accn, LEN(accn), figures, 1), 3);
+    same("adding ACCN", lash_add_label(0, 0, 3, n, keys, LEN(keys), counts, LEN(counts), accn, LEN(accn), figures, 1), 3);
     same("its place in one cell", figures[0], 3);
     same("the cell past it", figures[1], UNTOUCHED);
+
+    presence_bits();
 
     if (differences == 0) printf("check: ok\n");
     return differences != 0;

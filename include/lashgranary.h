@@ -12,10 +12,16 @@
  *
  * The calls keep local arrays on the stack, adding up to 153 KiB and contraction 193 KiB: a stack of 256 KiB is enough.
  *
- * A table of n vertices is keys, two words a vertex, low word first, and counts, one word of eight four-bit counters a vertex.
+ * A table of n vertices is keys, two words a vertex, low word first, and counts, one word a vertex. The kind says what such a
+ * word keeps of the edges to A, C, G and T. 0: four-bit counts, those in front from bit 0 on and those at the back from bit 16
+ * on. Any other number: presence bits, those in front at bits 3 to 6 and those at the back at bits 7 to 10; an edge is counted
+ * there by setting its bit. Presence bits are contracted at cutoff 1 alone, where the same labels give the same list as with
+ * counts.
  * Its capacity is the least of half the keys' length, the counts' length and 65,536. An empty table is n = 0, whatever the
- * slices hold. It is fit if n is at most the capacity and the keys strictly ascend, are canonical and below 4 to the K. A table
- * too full for a label goes on in larger slices, up to 65,536 vertices: copy the first 2 n words of keys and n of counts.
+ * slices hold. It is fit if n is at most the capacity, the keys strictly ascend, are canonical and below 4 to the K, and, with
+ * presence bits, no other bit is set in the first n words. A table is to be grown in one kind and one mode from empty on; it
+ * does not tell in which. A table too full for a label goes on in larger slices, up to 65,536 vertices: copy the first 2 n words
+ * of keys and n of counts.
  */
 #ifndef LASHGRANARY_H
 #define LASHGRANARY_H
@@ -27,11 +33,10 @@
 extern "C" {
 #endif
 
-/* Adds a label to a table of n vertices. Bases are the letters ACGTU in either case.
- * Mode 0 is the Rust's: where a part of K bases has the same canonical k-mer as the one before it, the step between them counts on one side
- * only. Any other number: that is so only where it is the reverse complement of the one before and differs from it. Then, for odd K, a label and
- * its reverse complement leave the same table: this is the mode for reads from both strands. A table is to be grown in one mode from empty on; it
- * does not tell in which.
+/* Adds a label to a table of n vertices of that kind. Bases are the letters ACGTU in either case.
+ * Mode 0 is the Rust's: where a part of K bases has the same canonical k-mer as the one before it, the step between them counts
+ * on one side only. Any other number: that is so only where it is the reverse complement of the one before and differs from it.
+ * Then, for odd K, a label and its reverse complement leave the same table: this is the mode for reads from both strands.
  * Figures: the edges, which is length minus K (0 for a label shorter than K, which changes nothing), and the number stored
  * afterwards, the n of the next call.
  * Refusals, in the order in which they are tried:
@@ -41,23 +46,23 @@ extern "C" {
  *   3  a byte of a label of K bytes or more is no base; figures: the first such place, from 0, and its byte
  *   6  stored plus new distinct k-mers exceed the capacity
  */
-uint32_t lash_add_label(uint32_t mode, size_t k, size_t n,
+uint32_t lash_add_label(uint32_t kind, uint32_t mode, size_t k, size_t n,
                         uint64_t *keys, size_t keys_len,
                         uint32_t *counts, size_t counts_len,
                         const uint8_t *label, size_t label_len,
                         uint64_t *figures, size_t figures_len);
 
-/* Adds many labels to a table of n vertices: label i is the bytes of text from starts[i] on, lengths[i] of them, and the first count
- * entries are added in order, as by lash_add_label in that mode, until one is refused. The table is tested for fitness for the first label alone,
- * so that many short labels cost less than a call for each.
+/* Adds many labels to a table of n vertices of that kind: label i is the bytes of text from starts[i] on, lengths[i] of them,
+ * and the first count entries are added in order, as by lash_add_label in that mode, until one is refused. The table is tested
+ * for fitness for the first label alone, so that many short labels cost less than a call for each.
  * Totals, as many as have room: the labels added, and the number stored after them, the n of the next call; they are written
  * whatever is returned. Where a label is refused, it is entry totals[0].
- * Returned, and in figures: what lash_add_label returns and notes for the last label that was tried; the labels before one that is
- * refused stay added. With a count of 0 nothing is tested, 0 is returned, and the figures are 0 and n.
+ * Returned, and in figures: what lash_add_label returns and notes for the last label that was tried; the labels before one that
+ * is refused stay added. With a count of 0 nothing is tested, 0 is returned, and the figures are 0 and n.
  * Refusal before the first label, and before all others:
  *   12  count past starts or lengths, or an entry past the text
  */
-uint32_t lash_add_labels(uint32_t mode, size_t k, size_t n,
+uint32_t lash_add_labels(uint32_t kind, uint32_t mode, size_t k, size_t n,
                          uint64_t *keys, size_t keys_len,
                          uint32_t *counts, size_t counts_len,
                          const uint8_t *text, size_t text_len,
@@ -67,19 +72,20 @@ uint32_t lash_add_labels(uint32_t mode, size_t k, size_t n,
                          uint64_t *totals, size_t totals_len,
                          uint64_t *figures, size_t figures_len);
 
-/* Contracts a table of n vertices; an edge is retained if its count is at least the cutoff. The labels' bases stand end to end
- * from the first byte of labels; starts and lengths list them in ascending byte order. The first n marks are 1 for a visited
- * vertex and 0 for another; their content before does not matter. There are at most n labels, and they hold at most n times K bases
- * together, so that this much room is never refused with 9.
+/* Contracts a table of n vertices of that kind; an edge is retained if its count is at least the cutoff, or if its presence bit
+ * is set. The labels' bases stand end to end from the first byte of labels; starts and lengths list them in ascending byte
+ * order. The first n marks are 1 for a visited vertex and 0 for another; their content before does not matter. There are at most
+ * n labels, and they hold at most n times K bases together, so that this much room is never refused with 9.
  * Figures: the number of labels and the total of their bases.
  * Refusals, in the order in which they are tried:
- *   1  K outside 1..63; figure: K
- *   5  table not fit
- *   7  marks shorter than n
- *   8  a walk's next vertex is not stored (hand-made tables)
- *   9  the labels exceed the slice labels, or their number exceeds starts or lengths
+ *   1   K outside 1..63; figure: K
+ *   5   table not fit
+ *   15  presence bits, and the cutoff is not 1
+ *   7   marks shorter than n
+ *   8   a walk's next vertex is not stored (hand-made tables)
+ *   9   the labels exceed the slice labels, or their number exceeds starts or lengths
  */
-uint32_t lash_contract(size_t k, uint32_t cutoff, size_t n,
+uint32_t lash_contract(uint32_t kind, size_t k, uint32_t cutoff, size_t n,
                        const uint64_t *keys, size_t keys_len,
                        const uint32_t *counts, size_t counts_len,
                        uint8_t *labels, size_t labels_len,

@@ -1,12 +1,15 @@
 #!/usr/bin/env python3
-"""adding_test.py: writes crates/adding_test/stdout, what adding answers in each mode by the rules of document 01 and of Q-3, in Python's own numbers
-and sets.
+"""adding_test.py: writes crates/adding_test/stdout, what adding answers to each kind of table and in each mode by the rules of document 01 and of Q-1
+and Q-3, in Python's own numbers and sets.
 
-A vertex is a number in a dict from k-mers to lists of eight counts; a table is put into words only to be shown."""
+A vertex is a number in a dict from k-mers to lists of eight counts; a table is put into words only to be shown. A presence bit says that an edge was
+counted at all."""
 import os
 
 FREE_KEY, FREE_COUNT = 0xEEEEEEEEEEEEEEEE, 0xDDDDDDDD
 CODE = {letter: code for code, letters in enumerate(("Aa", "Cc", "Gg", "TtUu")) for letter in letters.encode()}
+# The bits of a word that keeps presence bits: Front A, C, G, T and then Back.
+BITS = [1 << place for place in range(3, 11)]
 lines = []
 
 
@@ -39,10 +42,20 @@ def skips(mode, before, window):
 
 
 class Lent:
-    """Two lent slices, and the number stored."""
+    """Two lent slices, what the words of the second keep, and the number stored."""
 
-    def __init__(self, words, cells, n=0):
-        self.words, self.cells, self.n = list(words), list(cells), n
+    def __init__(self, kind, words, cells, n=0):
+        self.kind, self.words, self.cells, self.n = kind, list(words), list(cells), n
+
+    def counts_of(self, cell):
+        if self.kind == "presence":
+            return [1 if cell & bit else 0 for bit in BITS]
+        return [cell >> 4 * j & 15 for j in range(8)]
+
+    def cell_of(self, counts):
+        if self.kind == "presence":
+            return sum(bit for bit, count in zip(BITS, counts) if count > 0)
+        return sum(count << 4 * j for j, count in enumerate(counts))
 
     def keys(self):
         return [self.words[2 * i] + (self.words[2 * i + 1] << 64) for i in range(self.n)]
@@ -54,6 +67,8 @@ class Lent:
         if self.n > self.capacity():
             return False
         keys = self.keys()
+        if self.kind == "presence" and any(cell - (cell & sum(BITS)) for cell in self.cells[: self.n]):
+            return False
         return all(x < 4**k and is_canonical(x, k) for x in keys) and all(x < y for x, y in zip(keys, keys[1:]))
 
     def add(self, mode, k, label):
@@ -74,7 +89,7 @@ class Lent:
                 return f"R3 {place} {byte}"
         codes = [CODE[byte] for byte in label]
         windows = [both_strands(codes[i : i + k]) for i in range(len(codes) - k + 1)]
-        graph = {x: [self.cells[i] >> 4 * j & 15 for j in range(8)] for i, x in enumerate(self.keys())}
+        graph = {x: self.counts_of(self.cells[i]) for i, x in enumerate(self.keys())}
         if len(set(graph) | {min(w) for w in windows}) > self.capacity():
             return "R6"
         for i, (here, there) in enumerate(windows):
@@ -88,7 +103,7 @@ class Lent:
                     counters[side + base] = min(15, counters[side + base] + 1)
         for i, x in enumerate(sorted(graph)):
             self.words[2 * i], self.words[2 * i + 1] = x % 2**64, x >> 64
-            self.cells[i] = sum(count << 4 * j for j, count in enumerate(graph[x]))
+            self.cells[i] = self.cell_of(graph[x])
         self.n = len(graph)
         return f"edges {len(codes) - k} stored {self.n}"
 
@@ -97,80 +112,112 @@ class Lent:
         lines.append("counts" + "".join(f" {cell:08x}" for cell in self.cells))
 
 
-def three(mode, k, *labels):
-    table = Lent([FREE_KEY] * 24, [FREE_COUNT] * 12)
+def three(kind, mode, k, *labels):
+    table = Lent(kind, [FREE_KEY] * 24, [FREE_COUNT] * 12)
     for label in labels:
         table.add(mode, k, label)
     table.show()
 
 
-def few(mode, k, *labels):
-    table = Lent([FREE_KEY] * 5, [FREE_COUNT] * 3)
+def few(kind, mode, k, *labels):
+    table = Lent(kind, [FREE_KEY] * 5, [FREE_COUNT] * 3)
     for label in labels:
         table.add(mode, k, label)
     table.show()
 
 
-def often(mode, k, label, times):
-    table = Lent([FREE_KEY] * 8, [FREE_COUNT] * 4)
+def often(kind, mode, k, label, times):
+    table = Lent(kind, [FREE_KEY] * 8, [FREE_COUNT] * 4)
     for _ in range(times):
         table.add(mode, k, label)
     table.show()
 
 
-def by_hand(mode, k, n, first, second, label):
-    table = Lent([first, 0, second, 0, FREE_KEY, FREE_KEY], [1, 2, FREE_COUNT], n)
+def by_words(kind, mode, k, n, keys, cells, label):
+    (first, second), (one, two) = keys, cells
+    table = Lent(kind, [first, 0, second, 0, FREE_KEY, FREE_KEY], [one, two, FREE_COUNT], n)
     table.add(mode, k, label)
     table.show()
 
 
-def all_cases(mode):
-    lines.append(f"mode {mode}")
-    three(mode, 3, b"ACCCC", b"", b"")
-    three(mode, 3, b"GGGGT", b"", b"")
-    often(mode, 3, b"ACGG", 16)
-    three(mode, 3, b"ACCN", b"", b"")
-    three(mode, 3, b"AN", b"", b"")
-    three(mode, 1, b"AT", b"", b"")
-    three(mode, 0, b"ACGT", b"", b"N")
-    three(mode, 64, b"ACGT", b"", b"N")
-    three(mode, 1, b"ACGTTGCA", b"NA", b"acgu")
-    three(mode, 2, b"CAT", b"ATG", b"AAAA")
-    three(mode, 2, b"ATATAT", b"CGCG", b"GC")
-    three(mode, 3, b"ATCATC", b"GATGAT", b"ATATATA")
-    three(mode, 3, b"CAAAA", b"TTTTG", b"UuTtacGg")
-    three(mode, 3, b"ACGTACGTAAGGCC", b"TTTAGATTACA", b"ACG")
-    three(mode, 4, b"ACGTACGT", b"AACCGGTTR", b"CCCCC")
-    three(mode, 31, b"ACGTTGCAACGTACCAGTTGACCATGACCATGAC", b"GTCATGGTCATGGTCAACTGGTACGTTGCAACGT", b"TTTTTTTTTTTTTTTTTTTTTTTTTTTTTTTTTT")
-    three(mode, 32, b"ACGTTGCAACGTACCAGTTGACCATGACCATGACA", b"ACGTACGTACGTACGTACGTACGTACGTACGTACG", b"GTCATGGTCATGGTCAACTGGTACGTTGCAACGT")
-    three(mode, 33, b"ACGTTGCAACGTACCAGTTGACCATGACCATGACAG", b"AAAAAAAAAAAAAAAAAAAAAAAAAAAAAAAAA", b"CTGTCATGGTCATGGTCAACTGGTACGTTGCAACGT")
+def by_hand(kind, mode, k, n, first, second, label):
+    by_words(kind, mode, k, n, (first, second), (8, 0x410) if kind == "presence" else (1, 2), label)
+
+
+def all_cases(kind, mode):
+    three(kind, mode, 3, b"ACCCC", b"", b"")
+    three(kind, mode, 3, b"GGGGT", b"", b"")
+    often(kind, mode, 3, b"ACGG", 16)
+    three(kind, mode, 3, b"ACCN", b"", b"")
+    three(kind, mode, 3, b"AN", b"", b"")
+    three(kind, mode, 1, b"AT", b"", b"")
+    three(kind, mode, 0, b"ACGT", b"", b"N")
+    three(kind, mode, 64, b"ACGT", b"", b"N")
+    three(kind, mode, 1, b"ACGTTGCA", b"NA", b"acgu")
+    three(kind, mode, 2, b"CAT", b"ATG", b"AAAA")
+    three(kind, mode, 2, b"ATATAT", b"CGCG", b"GC")
+    three(kind, mode, 3, b"ATCATC", b"GATGAT", b"ATATATA")
+    three(kind, mode, 3, b"CAAAA", b"TTTTG", b"UuTtacGg")
+    three(kind, mode, 3, b"ACGTACGTAAGGCC", b"TTTAGATTACA", b"ACG")
+    three(kind, mode, 4, b"ACGTACGT", b"AACCGGTTR", b"CCCCC")
+    three(kind, mode, 31, b"ACGTTGCAACGTACCAGTTGACCATGACCATGAC", b"GTCATGGTCATGGTCAACTGGTACGTTGCAACGT", b"TTTTTTTTTTTTTTTTTTTTTTTTTTTTTTTTTT")
+    three(kind, mode, 32, b"ACGTTGCAACGTACCAGTTGACCATGACCATGACA", b"ACGTACGTACGTACGTACGTACGTACGTACGTACG", b"GTCATGGTCATGGTCAACTGGTACGTTGCAACGT")
+    three(kind, mode, 33, b"ACGTTGCAACGTACCAGTTGACCATGACCATGACAG", b"AAAAAAAAAAAAAAAAAAAAAAAAAAAAAAAAA", b"CTGTCATGGTCATGGTCAACTGGTACGTTGCAACGT")
     three(
-        mode, 63,
+        kind, mode, 63,
         b"ACGTTGCAACGTACCAGTTGACCATGACCATGACAGACGTTGCAACGTACCAGTTGACCATGACC",
         b"TTTTTTTTTTTTTTTTTTTTTTTTTTTTTTTTTTTTTTTTTTTTTTTTTTTTTTTTTTTTTTTTTA",
         b"GGTCATGGTCAACTGGTACGTTGCAACGTCTGTCATGGTCATGGTCAACTGGTACGTTGCAACGT",
     )
-    few(mode, 2, b"ACC", b"ACCG")
-    few(mode, 3, b"AACTT", b"AAC")
-    few(mode, 3, b"ACGG", b"TTT")
-    by_hand(mode, 3, 0, 5, 3, b"ACG")
-    by_hand(mode, 3, 1, 5, 3, b"ACG")
-    by_hand(mode, 3, 2, 3, 5, b"AAT")
-    by_hand(mode, 3, 2, 3, 5, b"ACC")
-    by_hand(mode, 3, 2, 5, 3, b"ACG")
-    by_hand(mode, 3, 2, 5, 5, b"ACG")
-    by_hand(mode, 3, 1, 63, 0, b"ACG")
-    by_hand(mode, 3, 1, 64, 0, b"ACG")
-    by_hand(mode, 3, 4, 3, 5, b"ACG")
-    by_hand(mode, 0, 2, 5, 3, b"ACG")
-    by_hand(mode, 3, 2, 5, 3, b"")
-    by_hand(mode, 3, 2, 3, 5, b"N")
-    three(mode, 5, b"A" * 4096, b"AAAAA", b"N" * 4097)
-    by_hand(mode, 3, 2, 5, 3, b"N" * 4097)
+    few(kind, mode, 2, b"ACC", b"ACCG")
+    few(kind, mode, 3, b"AACTT", b"AAC")
+    few(kind, mode, 3, b"ACGG", b"TTT")
+    by_hand(kind, mode, 3, 0, 5, 3, b"ACG")
+    by_hand(kind, mode, 3, 1, 5, 3, b"ACG")
+    by_hand(kind, mode, 3, 2, 3, 5, b"AAT")
+    by_hand(kind, mode, 3, 2, 3, 5, b"ACC")
+    by_hand(kind, mode, 3, 2, 5, 3, b"ACG")
+    by_hand(kind, mode, 3, 2, 5, 5, b"ACG")
+    by_hand(kind, mode, 3, 1, 63, 0, b"ACG")
+    by_hand(kind, mode, 3, 1, 64, 0, b"ACG")
+    by_hand(kind, mode, 3, 4, 3, 5, b"ACG")
+    by_hand(kind, mode, 0, 2, 5, 3, b"ACG")
+    by_hand(kind, mode, 3, 2, 5, 3, b"")
+    by_hand(kind, mode, 3, 2, 3, 5, b"N")
+    three(kind, mode, 5, b"A" * 4096, b"AAAAA", b"N" * 4097)
+    by_hand(kind, mode, 3, 2, 5, 3, b"N" * 4097)
 
 
-for each in ("same canonical", "reversed"):
-    all_cases(each)
+def words_with_bits(mode):
+    """Full words, words with a stray bit among the first n, which are unfit, and words with one behind them, which nobody reads."""
+
+    def bits(k, n, one, two, label):
+        by_words("presence", mode, k, n, (3, 5), (one, two), label)
+
+    bits(3, 2, 0x7F8, 0x7F8, b"AATT")
+    bits(3, 2, 0x7F8, 0x7F8, b"ACCG")
+    bits(3, 2, 0x7F8, 0, b"CGGT")
+    for stray in (0x1, 0x2, 0x4, 0x800, 0x80000000, 0xFFFFF807):
+        bits(3, 2, 0x8 | stray, 0x8, b"ACG")
+    bits(3, 2, 0x8, 0x409, b"ACC")
+    bits(3, 2, 0x8, 0xC08, b"")
+    bits(0, 2, 0x8, 0x409, b"ACG")
+    bits(3, 2, 0x8, 0x409, b"ACN")
+    bits(3, 2, 0x8, 0x409, b"N" * 4097)
+    bits(3, 1, 0x8, 0x409, b"AATT")
+    bits(3, 1, 0x8, 0xFFFFFFFF, b"ACGG")
+    bits(3, 0, 0x9, 0x800, b"ACC")
+
+
+MODES = ("same canonical", "reversed")
+for each in MODES:
+    lines.append(f"mode {each}")
+    all_cases("counted", each)
+for each in MODES:
+    lines.append(f"presence bits, mode {each}")
+    all_cases("presence", each)
+    words_with_bits(each)
+
 
 here = os.path.dirname(os.path.abspath(__file__))
 with open(os.path.join(here, "..", "crates", "adding_test", "stdout"), "w") as expected:

@@ -1,5 +1,6 @@
 // Answers the questions of crates/state_test by the Rust original: oracle/record builds it and writes crates/state_test/stdout.
 // state.rs asks its crate for three things: dna.rs, `Side` (of lib.rs, written out here) and a hash that no counter uses.
+// With presence bits the original guards its cutoff and its edges by debug_assert alone, so this is built with these assertions on.
 #![allow(dead_code)]
 
 extern crate self as xxhash_rust;
@@ -22,8 +23,8 @@ pub enum Side {
 }
 
 use dna::Base;
-use state::{Counted, EdgeFrequency, VertexState};
-use std::panic::catch_unwind;
+use state::{Counted, EdgeFrequency, Presence, VertexState};
+use std::panic::{catch_unwind, AssertUnwindSafe};
 
 const BASES: [Base; 6] = [Base::A, Base::C, Base::G, Base::T, Base::N, Base::E];
 const SIDES: [Side; 2] = [Side::Front, Side::Back];
@@ -100,7 +101,97 @@ fn call(f: impl Fn() -> u32 + std::panic::UnwindSafe) {
     }
 }
 
+// A vertex of presence bits, whose word is all that it holds.
+fn present(flags: u32) -> VertexState<Presence> {
+    unsafe { std::mem::transmute(flags) }
+}
+
+fn flags(vertex: VertexState<Presence>) -> u32 {
+    unsafe { std::mem::transmute(vertex) }
+}
+
+// How many of a side's bases are in the word: the original has no edge_count for presence bits, but its other answers have to agree.
+fn edge_count(word: u32, side: usize) -> u32 {
+    let bases: Vec<usize> = (0..4).filter(|base| word & 8 << (4 * side + base) != 0).collect();
+    let (vertex, side) = (present(word), SIDES[side]);
+    let at = match bases[..] {
+        [] => Base::E,
+        [base] => BASES[base],
+        _ => Base::N,
+    };
+    assert_eq!(vertex.edge_at(side, 1), at);
+    assert_eq!(vertex.is_branching_side(side, 1), bases.len() > 1);
+    assert_eq!(vertex.is_empty_side(side, 1), bases.is_empty());
+    bases.len() as u32
+}
+
+// An assertion of the original is refusal 15. At cutoff 0 it has none and answers as at 1; document 02 refuses every cutoff but 1.
+fn ask(cutoff: u32, question: impl Fn(u32) -> u32) {
+    let answer = catch_unwind(AssertUnwindSafe(|| question(cutoff))).ok();
+    match cutoff {
+        0 => assert_eq!(answer, Some(question(1))),
+        1 => assert!(answer.is_some()),
+        _ => assert_eq!(answer, None),
+    }
+    match answer {
+        Some(n) if cutoff == 1 => print!(" {}", n),
+        _ => print!(" R15"),
+    }
+}
+
+fn show_present(word: u32) {
+    let vertex = present(word);
+    let counts = [edge_count(word, 0), edge_count(word, 1)];
+    assert_eq!(vertex.is_isolated(1), counts == [0, 0]);
+    println!("presence {:08x}", word);
+    for cutoff in [0, 1, 2, 16] {
+        print!("cutoff {}", cutoff);
+        for (side, count) in SIDES.into_iter().zip(counts) {
+            // The count is refused where the base is.
+            ask(cutoff, |c| {
+                vertex.edge_at(side, c);
+                count
+            });
+            ask(cutoff, |c| vertex.edge_at(side, c).bits() as u32);
+            ask(cutoff, |c| vertex.is_branching_side(side, c) as u32);
+            ask(cutoff, |c| vertex.is_empty_side(side, c) as u32);
+        }
+        ask(cutoff, |c| vertex.is_isolated(c) as u32);
+        println!();
+    }
+}
+
+// The original marks edges by update_edges alone, where E is a missing one: that a single edge may not be E is its counters' assertion.
+fn mark_from(word: u32) {
+    println!("presence {:08x}", word);
+    for side in 0..2 {
+        for code in 0..6 {
+            print!("add {} {}", side, code);
+            call(move || {
+                EdgeFrequency::default().add_edge(SIDES[side], BASES[code]);
+                let mut vertex = present(word);
+                match SIDES[side] {
+                    Side::Front => vertex.update_edges(BASES[code], Base::E),
+                    Side::Back => vertex.update_edges(Base::E, BASES[code]),
+                }
+                flags(vertex)
+            });
+        }
+    }
+    for front in 0..6 {
+        for back in 0..6 {
+            print!("update {} {}", front, back);
+            call(move || {
+                let mut vertex = present(word);
+                vertex.update_edges(BASES[front], BASES[back]);
+                flags(vertex)
+            });
+        }
+    }
+}
+
 fn main() {
+    assert!(cfg!(debug_assertions), "build with -C debug-assertions=on");
     std::panic::set_hook(Box::new(|_| {}));
     for others in [0, 2, 15] {
         for n in [0, 1, 15, 16] {
@@ -129,5 +220,14 @@ fn main() {
                 word(&vertex)
             });
         }
+    }
+    for word in (0..256).map(|bits| bits << 3) {
+        show_present(word);
+    }
+    for word in [0x7f9, 0x807, 0x80000000, 0xfffff807, 0xfffffaaf, 0xffffffff] {
+        show_present(word);
+    }
+    for word in [0, 0x128, 0x7f8, 0x807, 0xfffff807, 0xffffffff] {
+        mark_from(word);
     }
 }

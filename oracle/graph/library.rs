@@ -1,16 +1,16 @@
 // This library's C interface, as include/lashgranary.h has it.
 unsafe extern "C" {
     pub fn lash_add_label(
-        mode: u32, k: usize, n: usize, keys: *mut u64, keys_len: usize, counts: *mut u32, counts_len: usize, label: *const u8, label_len: usize,
-        figures: *mut u64, figures_len: usize,
+        kind: u32, mode: u32, k: usize, n: usize, keys: *mut u64, keys_len: usize, counts: *mut u32, counts_len: usize, label: *const u8,
+        label_len: usize, figures: *mut u64, figures_len: usize,
     ) -> u32;
     pub fn lash_add_labels(
-        mode: u32, k: usize, n: usize, keys: *mut u64, keys_len: usize, counts: *mut u32, counts_len: usize, text: *const u8, text_len: usize,
-        starts: *const u32, starts_len: usize, lengths: *const u32, lengths_len: usize, count: usize, totals: *mut u64, totals_len: usize,
-        figures: *mut u64, figures_len: usize,
+        kind: u32, mode: u32, k: usize, n: usize, keys: *mut u64, keys_len: usize, counts: *mut u32, counts_len: usize, text: *const u8,
+        text_len: usize, starts: *const u32, starts_len: usize, lengths: *const u32, lengths_len: usize, count: usize, totals: *mut u64,
+        totals_len: usize, figures: *mut u64, figures_len: usize,
     ) -> u32;
     pub fn lash_contract(
-        k: usize, cutoff: u32, n: usize, keys: *const u64, keys_len: usize, counts: *const u32, counts_len: usize, labels: *mut u8,
+        kind: u32, k: usize, cutoff: u32, n: usize, keys: *const u64, keys_len: usize, counts: *const u32, counts_len: usize, labels: *mut u8,
         labels_len: usize, starts: *mut u32, starts_len: usize, lengths: *mut u32, lengths_len: usize, marks: *mut u8, marks_len: usize,
         figures: *mut u64, figures_len: usize,
     ) -> u32;

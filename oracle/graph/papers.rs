@@ -1,7 +1,33 @@
-// The customer's documents 01 and 02 by definition, on letters. A k-mer is a text of A, C, G, T: texts of one length order as their numbers
-// do. A table has eight counts for each canonical k-mer. Written from the papers, with nothing of the original and nothing packed. Tables are grown from
-// empty, so none is unfit (refusal 5) and a walk's next vertex is always stored (8).
+// The customer's documents 01 and 02 by definition, on letters. A k-mer is a text of A, C, G, T: texts of one length order as their
+// numbers do. A table has eight counts or signs for each canonical k-mer. Written from the papers, with nothing of the original and nothing packed.
+// Tables are grown from empty, so none is unfit (refusal 5) and a walk's next vertex is always stored (8).
 use std::collections::{BTreeMap, BTreeSet};
+
+// What a table keeps of the sightings of an edge.
+#[derive(Clone, Copy, PartialEq)]
+pub enum Kind {
+    // Document 01: how many there were, stopping at 15.
+    Counts,
+    // whether there was one.
+    Presence,
+}
+
+impl Kind {
+    fn sighted(self, kept: u8) -> u8 {
+        match self {
+            Kind::Counts => 15.min(kept + 1),
+            Kind::Presence => 1,
+        }
+    }
+
+    // Four bits a count, Front A lowest; one bit a sign, Front A at bit 3.
+    fn word(self, eight: &Counts) -> u32 {
+        match self {
+            Kind::Counts => eight.iter().rev().fold(0, |word, count| 16 * word + *count as u32),
+            Kind::Presence => 8 * eight.iter().rev().fold(0, |word, sign| 2 * word + *sign as u32),
+        }
+    }
+}
 
 // When the predecessor of a window is not counted.
 #[derive(Clone, Copy)]
@@ -33,7 +59,7 @@ impl Side {
     }
 }
 
-// Front A, C, G, T, then Back A, C, G, T.
+// Front A, C, G, T, then Back A, C, G, T; a sign is 0 or 1.
 type Counts = [u8; 8];
 
 // What is returned, 0 or a refusal, and the figures beside it.
@@ -41,6 +67,7 @@ pub type Answer = (u32, Vec<u64>);
 
 pub struct Table {
     k: usize,
+    kind: Kind,
     mode: Mode,
     capacity: usize,
     vertices: BTreeMap<Vec<u8>, Counts>,
@@ -103,8 +130,8 @@ fn isolated(counts: &Counts, cutoff: u32) -> bool {
 }
 
 impl Table {
-    pub fn new(mode: Mode, k: usize, capacity: usize) -> Table {
-        Table { k, mode, capacity, vertices: BTreeMap::new() }
+    pub fn new(kind: Kind, mode: Mode, k: usize, capacity: usize) -> Table {
+        Table { k, kind, mode, capacity, vertices: BTreeMap::new() }
     }
 
     pub fn stored(&self) -> u64 {
@@ -117,7 +144,7 @@ impl Table {
         for (vertex, eight) in &self.vertices {
             let number = vertex.iter().fold(0u128, |n, b| 4 * n + code(*b) as u128);
             keys.extend([number as u64, (number >> 64) as u64]);
-            counts.push(eight.iter().rev().fold(0, |word, count| 16 * word + *count as u32));
+            counts.push(self.kind.word(eight));
         }
         (keys, counts)
     }
@@ -157,7 +184,7 @@ impl Table {
         for (side, neighbour) in [(Side::Front, front), (Side::Back, back)] {
             if let Some(letter) = neighbour {
                 let count = &mut counts[slot(side, letter)];
-                *count = 15.min(*count + 1);
+                *count = self.kind.sighted(*count);
             }
         }
     }
@@ -200,6 +227,9 @@ impl Table {
     pub fn contract(&self, cutoff: u32) -> Result<List, Answer> {
         if !(1..=63).contains(&self.k) {
             return Err((1, vec![self.k as u64]));
+        }
+        if self.kind == Kind::Presence && cutoff != 1 {
+            return Err((15, vec![]));
         }
         let (mut visited, mut labels) = (BTreeSet::new(), vec![]);
         for (anchor, counts) in &self.vertices {

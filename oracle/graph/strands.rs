@@ -1,8 +1,9 @@
-// Compares the calls of this library with the papers' own computation (`papers.rs`) in both modes of adding, case by case: the answer to each label
-// and the table after it, the same by one call for all labels up to the first that is refused, then contraction's totals, label bytes, index and
-// marks, and the FASTA. Each case is tried once more with some labels replaced by their reverse complements: in the mode of Q-3 and for odd K that
-// must leave the same tables and the same list. `strands FIRST NUMBER` tries NUMBER cases of each kind from FIRST on, prints how many were compared
-// and each that differs, and exits with 1 if one did.
+// Compares the calls of this library with the papers' own computation (`papers.rs`) with counts and presence bits, in both modes of adding, case
+// by case: the answer to each label and the table after it, the same by one call for all labels up to the first that is refused, then contraction's
+// totals, label bytes, index and marks, and the FASTA. Each case is tried once more with some labels replaced by their reverse complements: in the
+// mode of Q-3 and for odd K that must leave the same tables and the same list. And presence bits must give the answers, keys and, at cutoff 1, the
+// list that counts give. `strands FIRST NUMBER` tries NUMBER cases of each sort from FIRST on, prints how many were compared and each that differs,
+// and exits with 1 if one did.
 #![allow(dead_code)]
 
 mod cases;
@@ -12,8 +13,9 @@ mod records;
 
 use cases::Dice;
 use library::*;
-use papers::{Answer, List, Mode, Table};
+use papers::{Answer, Kind, List, Mode, Table};
 use records::File;
+use std::collections::{BTreeMap, BTreeSet};
 
 // What stands in cells that no call may touch.
 const FREE: u8 = 0xd9;
@@ -25,9 +27,16 @@ fn written(figures: [u64; 3]) -> Vec<u64> {
     figures.into_iter().take_while(|f| *f != FREE_KEY).collect()
 }
 
-// A table of this library, grown in the mode of that number.
+// A kind and a mode, each with a number that means it.
+#[derive(Clone, Copy)]
+struct Way {
+    kind: (Kind, u32),
+    mode: (Mode, u32),
+}
+
+// A table of this library, grown in a way.
 struct Ours {
-    mode: u32,
+    way: Way,
     k: usize,
     n: usize,
     keys: Vec<u64>,
@@ -35,16 +44,16 @@ struct Ours {
 }
 
 impl Ours {
-    fn new(mode: u32, k: usize, capacity: usize) -> Ours {
-        Ours { mode, k, n: 0, keys: vec![FREE_KEY; 2 * capacity], counts: vec![FREE_COUNT; capacity] }
+    fn new(way: Way, k: usize, capacity: usize) -> Ours {
+        Ours { way, k, n: 0, keys: vec![FREE_KEY; 2 * capacity], counts: vec![FREE_COUNT; capacity] }
     }
 
     fn add(&mut self, label: &[u8]) -> Answer {
         let mut figures = [FREE_KEY; 3];
         let r = unsafe {
             lash_add_label(
-                self.mode, self.k, self.n, self.keys.as_mut_ptr(), self.keys.len(), self.counts.as_mut_ptr(), self.counts.len(), label.as_ptr(),
-                label.len(), figures.as_mut_ptr(), 3,
+                self.way.kind.1, self.way.mode.1, self.k, self.n, self.keys.as_mut_ptr(), self.keys.len(), self.counts.as_mut_ptr(),
+                self.counts.len(), label.as_ptr(), label.len(), figures.as_mut_ptr(), 3,
             )
         };
         if r == 0 {
@@ -65,9 +74,9 @@ impl Ours {
         let (mut totals, mut figures) = ([FREE_KEY; 3], [FREE_KEY; 3]);
         let r = unsafe {
             lash_add_labels(
-                self.mode, self.k, self.n, self.keys.as_mut_ptr(), self.keys.len(), self.counts.as_mut_ptr(), self.counts.len(), text.as_ptr(),
-                text.len(), starts.as_ptr(), starts.len(), lengths.as_ptr(), lengths.len(), labels.len(), totals.as_mut_ptr(), 3,
-                figures.as_mut_ptr(), 3,
+                self.way.kind.1, self.way.mode.1, self.k, self.n, self.keys.as_mut_ptr(), self.keys.len(), self.counts.as_mut_ptr(),
+                self.counts.len(), text.as_ptr(), text.len(), starts.as_ptr(), starts.len(), lengths.as_ptr(), lengths.len(), labels.len(),
+                totals.as_mut_ptr(), 3, figures.as_mut_ptr(), 3,
             )
         };
         self.n = totals[1] as usize;
@@ -86,19 +95,21 @@ impl Ours {
             && self.counts[self.n..].iter().all(|w| *w == FREE_COUNT)
     }
 
-    // The list, or the refusal; 0 where a call has written past its cells or the FASTA is not of its length.
+    // The list, or the refusal; 0 where a call has written past its cells, a refusal has changed one, or the FASTA is not of its length.
     fn contract(&self, cutoff: u32) -> Result<List, Answer> {
         let (room, entries) = (self.n * self.k + 9, self.n + 3);
         let (mut labels, mut starts, mut lengths) = (vec![FREE; room], vec![FREE_COUNT; entries], vec![FREE_COUNT; entries]);
         let (mut marks, mut figures) = (vec![FREE; self.n + 1], [FREE_KEY; 3]);
         let r = unsafe {
             lash_contract(
-                self.k, cutoff, self.n, self.keys.as_ptr(), self.keys.len(), self.counts.as_ptr(), self.counts.len(), labels.as_mut_ptr(),
-                room, starts.as_mut_ptr(), entries, lengths.as_mut_ptr(), entries, marks.as_mut_ptr(), marks.len(), figures.as_mut_ptr(), 3,
+                self.way.kind.1, self.k, cutoff, self.n, self.keys.as_ptr(), self.keys.len(), self.counts.as_ptr(), self.counts.len(),
+                labels.as_mut_ptr(), room, starts.as_mut_ptr(), entries, lengths.as_mut_ptr(), entries, marks.as_mut_ptr(), marks.len(),
+                figures.as_mut_ptr(), 3,
             )
         };
         if r != 0 {
-            return Err((r, written(figures)));
+            let changed = labels.iter().chain(&marks).any(|b| *b != FREE) || starts.iter().chain(&lengths).any(|n| *n != FREE_COUNT);
+            return Err(if changed { (0, vec![]) } else { (r, written(figures)) });
         }
         let [count, bases] = [figures[0] as usize, figures[1] as usize];
         let mut fasta = vec![FREE; bases + 4 * count + 1];
@@ -119,19 +130,16 @@ impl Ours {
     }
 }
 
-// What a list of labels leaves: the answer to each, the table after each, and the list.
+// What a list of labels leaves: the answer to each, the table after each, and the list at each cutoff that was tried.
 struct Grown {
     answers: Vec<Answer>,
     tables: Vec<(Vec<u64>, Vec<u32>)>,
-    list: Result<List, Answer>,
+    lists: BTreeMap<u32, Result<List, Answer>>,
 }
 
-// A mode, and a number that means it.
-type Numbered = (Mode, u32);
-
 // All labels by one call, up to the first that is refused.
-fn together(mode: Numbered, file: &File, capacity: usize) -> bool {
-    let (mut table, mut ours) = (Table::new(mode.0, file.k, capacity), Ours::new(mode.1, file.k, capacity));
+fn together(way: Way, file: &File, capacity: usize) -> bool {
+    let (mut table, mut ours) = (Table::new(way.kind.0, way.mode.0, file.k, capacity), Ours::new(way, file.k, capacity));
     let (mut added, mut last) = (0, (0, vec![0, 0]));
     for label in &file.labels {
         last = table.add(label);
@@ -143,9 +151,9 @@ fn together(mode: Numbered, file: &File, capacity: usize) -> bool {
     ours.add_all(&file.labels) == (last, vec![added, table.stored()]) && ours.holds(&table)
 }
 
-// This library's, if it is the computation's.
-fn grown(mode: Numbered, file: &File, capacity: usize) -> Option<Grown> {
-    let (mut table, mut ours) = (Table::new(mode.0, file.k, capacity), Ours::new(mode.1, file.k, capacity));
+// This library's, if it is the computation's. Presence bits are contracted at cutoff 1, and refused at the file's if that is another, at 0 and at 2.
+fn grown(way: Way, file: &File, capacity: usize) -> Option<Grown> {
+    let (mut table, mut ours) = (Table::new(way.kind.0, way.mode.0, file.k, capacity), Ours::new(way, file.k, capacity));
     let (mut answers, mut tables) = (vec![], vec![]);
     for label in &file.labels {
         let answer = ours.add(label);
@@ -155,8 +163,10 @@ fn grown(mode: Numbered, file: &File, capacity: usize) -> Option<Grown> {
         answers.push(answer);
         tables.push(ours.cells());
     }
-    let list = ours.contract(file.cutoff);
-    (list == table.contract(file.cutoff) && together(mode, file, capacity)).then_some(Grown { answers, tables, list })
+    let cutoffs = BTreeSet::from(if way.kind.0 == Kind::Counts { [file.cutoff; 4] } else { [0, 1, 2, file.cutoff] });
+    let lists: BTreeMap<u32, Result<List, Answer>> = cutoffs.into_iter().map(|cutoff| (cutoff, ours.contract(cutoff))).collect();
+    let same = lists.iter().all(|(cutoff, list)| *list == table.contract(*cutoff)) && together(way, file, capacity);
+    same.then_some(Grown { answers, tables, lists })
 }
 
 // A label's reverse complement in one of its spellings.
@@ -185,10 +195,19 @@ fn some_turned(dice: &mut Dice, file: &File) -> File {
 // No table after a label, no answer to a label that is accepted, and no list tells one from the other.
 fn alike(one: &Grown, other: &Grown) -> bool {
     let same = |(a, b): (&Answer, &Answer)| a.0 == b.0 && (a.0 != 0 || a == b);
-    one.tables == other.tables && one.answers.iter().zip(&other.answers).all(same) && one.list == other.list
+    one.tables == other.tables && one.answers.iter().zip(&other.answers).all(same) && one.lists == other.lists
 }
 
-// What is counted over the cases of a kind.
+// The same answers, the same keys after each label, a bit for each counter that is not 0, and the same list at cutoff 1 where both were contracted.
+fn agree(counts: &Grown, presence: &Grown) -> bool {
+    let present = |word: &u32| (0..8).filter(|j| word >> (4 * j) & 15 != 0).map(|j| 8 << j).sum::<u32>();
+    let bits = counts.tables.iter().map(|(keys, words)| (keys.clone(), words.iter().map(present).collect()));
+    counts.answers == presence.answers
+        && bits.collect::<Vec<_>>() == presence.tables
+        && counts.lists.get(&1).is_none_or(|list| Some(list) == presence.lists.get(&1))
+}
+
+// What is counted over the cases of a sort, with one kind of table.
 #[derive(Default)]
 struct Tally {
     compared: usize,
@@ -202,29 +221,35 @@ struct Tally {
 }
 
 impl Tally {
-    // A file's records as calls, whatever becomes of them in the program.
-    fn take(&mut self, i: usize, bytes: &[u8], capacity: usize) {
-        let Ok(file) = records::records(bytes) else { return };
+    // A file's records as calls, whatever becomes of them in the program: what the file leaves in both modes, that of Q-3 first.
+    fn take(&mut self, kind: Kind, i: usize, bytes: &[u8], capacity: usize) -> Option<[Grown; 2]> {
+        let file = records::records(bytes).ok()?;
         let dice = &mut Dice::new((i as u64).rotate_left(40));
         let new = (Mode::Reversed, dice.pick(&[1, 2, 7, u32::MAX]));
         let old = (Mode::SameCanonical, 0);
         let other = some_turned(dice, &file);
+        let kind = (kind, if kind == Kind::Counts { 0 } else { dice.pick(&[1, 2, 256, u32::MAX]) });
         self.compared += 1;
-        let four = [(new, &file), (new, &other), (old, &file), (old, &other)].map(|(mode, file)| grown(mode, file, capacity));
-        let [Some(here), Some(there), Some(old_here), Some(old_there)] = four else { return self.differ.push(i) };
+        let four = [(new, &file), (new, &other), (old, &file), (old, &other)].map(|(mode, file)| grown(Way { kind, mode }, file, capacity));
+        let [Some(here), Some(there), Some(old_here), Some(old_there)] = four else {
+            self.differ.push(i);
+            return None;
+        };
         self.tables += (here.tables.last() != old_here.tables.last()) as usize;
-        self.lists += (here.list != old_here.list) as usize;
+        self.lists += (here.lists != old_here.lists) as usize;
         if file.k % 2 == 1 && file.k < 64 && !file.labels.is_empty() {
             self.odd += 1;
             self.told += (old_here.tables.last() != old_there.tables.last()) as usize;
             if !alike(&here, &there) {
                 self.differ.push(i);
+                return None;
             }
         }
+        Some([here, old_here])
     }
 
-    fn report(&self, kind: &str) {
-        println!("{kind}: {} compared, {} differ {:?}", self.compared, self.differ.len(), &self.differ[..self.differ.len().min(10)]);
+    fn report(&self, sort: &str) {
+        println!("{sort}: {} compared, {} differ {:?}", self.compared, self.differ.len(), &self.differ[..self.differ.len().min(10)]);
         println!("    the modes leave different tables in {}, different lists in {}", self.tables, self.lists);
         println!("    odd K and a label turned in {}; document 01's mode leaves another table then in {}", self.odd, self.told);
     }
@@ -234,22 +259,33 @@ pub fn main() {
     let argument = |i: usize| std::env::args().nth(i).and_then(|s| s.parse::<usize>().ok()).expect("strands FIRST NUMBER");
     let (first, number) = (argument(1), argument(2));
     let mut differ = 0;
-    let mut tried = |kind: &str, cases: &mut dyn Iterator<Item = (usize, Vec<u8>, usize)>| {
-        let mut tally = Tally::default();
-        cases.for_each(|(i, bytes, capacity)| tally.take(i, &bytes, capacity));
-        tally.report(kind);
-        differ += tally.differ.len();
+    let mut tried = |sort: &str, cases: &mut dyn Iterator<Item = (usize, Vec<u8>, usize, bool)>| {
+        let (mut counts, mut presence) = (Tally::default(), Tally::default());
+        for (i, bytes, capacity, both) in cases {
+            let counted = counts.take(Kind::Counts, i, &bytes, capacity);
+            let present = if both { presence.take(Kind::Presence, i, &bytes, capacity) } else { None };
+            if let (Some(counted), Some(present)) = (counted, present)
+                && !counted.iter().zip(&present).all(|(one, other)| agree(one, other))
+            {
+                presence.differ.push(i);
+            }
+        }
+        for (kind, tally) in [("counts", counts), ("presence bits", presence)] {
+            tally.report(&format!("{sort}, {kind}"));
+            differ += tally.differ.len();
+        }
     };
     let small = (1..=4)
         .flat_map(|k| (0..4).flat_map(move |cutoff| (0..cases::texts_up_to(if k < 3 { 6 } else { 7 })).map(move |i| (k, cutoff, i))))
         .enumerate();
+    // The cutoff makes no other table of presence bits.
     tried(
-        "every label of up to 6 (K 1, 2) or 7 (K 3, 4) letters, cutoffs 0 to 3",
-        &mut small.map(|(i, c)| (i, cases::file(c.0, c.1, &[cases::text(c.2)]), 64)),
+        "every label of up to 6 (K 1, 2) or 7 (K 3, 4) letters (counts at cutoffs 0 to 3)",
+        &mut small.map(|(i, (k, cutoff, text))| (i, cases::file(k, cutoff, &[cases::text(text)]), 64, cutoff == 1)),
     );
     let range = first..first + number;
-    tried("random files", &mut range.clone().map(|i| (i, cases::random_file(i), 1024)));
-    tried("random files, small tables", &mut range.clone().map(|i| (i, cases::random_file(i), 1 + i % 40)));
-    tried("large files", &mut (first..first + number / 100).map(|i| (i, cases::large_file(i), 1024)));
+    tried("random files", &mut range.clone().map(|i| (i, cases::random_file(i), 1024, true)));
+    tried("random files, small tables", &mut range.clone().map(|i| (i, cases::random_file(i), 1 + i % 40, true)));
+    tried("large files", &mut (first..first + number / 100).map(|i| (i, cases::large_file(i), 1024, true)));
     std::process::exit((differ > 0) as i32);
 }

@@ -10,7 +10,7 @@ use lib.ListN.{length, getD, take, length-map}
 use lib.Seq.{ext-getD, length-take-le, getD-take}
 use Rattle.lemmas.proofs.Lists.{getD-map}
 use Rattle.lemmas.proofs.Numbers.{true-or-false}
-use Rattle.state.specs.Counted.{fourBits}
+use Rattle.state.specs.Counted.{Kind}
 use Rattle.graph.specs.Table.{Table, tableOf, keysOf, rank, stored}
 use Rattle.graph.specs.Sightings.{Rule, windows}
 use Rattle.graph.specs.Adding.{added}
@@ -39,16 +39,16 @@ cells-map f s xs u l h e =
     getD-take u s i 0 d ∙ e i d ∙ sym (getD-map f xs i (omega arith)))
 
 -- The table with the label added, by what was found of its windows.
-pub record Batched (rule : Rule) (K : ℕ) (label : List ℕ) (n : ℕ) (keys counts : List ℕ) (u : ℕ) (new-keys new-places new-counts counts′ : List ℕ) : Type 0 where
-  pub keys-in : added fourBits rule K label (tableOf n keys counts) .keys
+pub record Batched (κ : Kind) (rule : Rule) (K : ℕ) (label : List ℕ) (n : ℕ) (keys counts : List ℕ) (u : ℕ) (new-keys new-places new-counts counts′ : List ℕ) : Type 0 where
+  pub keys-in : added κ rule K label (tableOf n keys counts) .keys
       ≡ putIn (take u new-places) (keysOf u new-keys) (keysOf n keys)
-  pub counts-in : added fourBits rule K label (tableOf n keys counts) .counts
+  pub counts-in : added κ rule K label (tableOf n keys counts) .counts
       ≡ putIn (take u new-places) (take u new-counts) (take n counts′)
   pub rises : rising n 0 (take u new-places) ≡ true
 
-module _ {rule : Rule} {K : ℕ} {label : List ℕ} {n : ℕ} {keys counts : List ℕ} (a : Addable K label n keys counts)
+module _ {κ : Kind} {rule : Rule} {K : ℕ} {label : List ℕ} {n : ℕ} {keys counts : List ℕ} (a : Addable K label n keys counts)
     {u : ℕ} {new-keys new-places new-counts : List ℕ}
-    (g : Grouped rule K label (keysOf n keys) (sortedNew K label (keysOf n keys)) u new-keys new-places new-counts) where
+    (g : Grouped κ rule K label (keysOf n keys) (sortedNew K label (keysOf n keys)) u new-keys new-places new-counts) where
   abbrev ks : List ℕ
   ks = keysOf n keys
 
@@ -59,14 +59,14 @@ module _ {rule : Rule} {K : ℕ} {label : List ℕ} {n : ℕ} {keys counts : Lis
   t = tableOf n keys counts
 
   abbrev after : Table
-  after = added fourBits rule K label t
+  after = added κ rule K label t
 
   abbrev fresh : List Row
   fresh = newRows K label ks (windows K label)
 
   -- A new k-mer's word.
   abbrev word : ℕ → ℕ
-  word y = tallyRows rule K label y (sortedNew K label ks) 0
+  word y = tallyRows κ rule K label y (sortedNew K label ks) 0
 
   sound : Sound K t
   sound = fit-sound K n keys counts (a .fits)
@@ -81,12 +81,12 @@ module _ {rule : Rule} {K : ℕ} {label : List ℕ} {n : ℕ} {keys counts : Lis
   none-stored y s = rows-new K label ks y (windows K label) (sym (has-new y) ∙ s)
 
   after-sound : Sound K after
-  after-sound = added-sound fourBits rule K label t (inr (a .given .bases)) sound
+  after-sound = added-sound κ rule K label t (inr (a .given .bases)) sound
 
   keys-are : after .keys ≡ keysIn ks xs
   keys-are =
       same-keys K 0 0 (after .keys) (keysIn ks xs) (after-sound .fits) (keys-fit ks K (sound .fits) 0 xs (g .fits) none-stored) (λ y.
-      ap (λ (l : List ℕ). stored l y) (added-keys fourBits rule K label t)
+      ap (λ (l : List ℕ). stored l y) (added-keys κ rule K label t)
       ∙ rows-stored K label ks y t refl (windows K label)
       ∙ sym (keys-stored ks K 0 xs y (g .fits) ∙ ap (λ (b : Bool). stored ks y || b) (has-new y)))
 
@@ -103,11 +103,11 @@ module _ {rule : Rule} {K : ℕ} {label : List ℕ} {n : ℕ} {keys counts : Lis
         long,
         rows-count K label ks t refl (windows K label),
         rows-few K label ks (windows K label),
-        ap length (added-keys fourBits rule K label t),
+        ap length (added-keys κ rule K label t),
       )
 
   module _ (room-places : u ≤ length new-places) (room-counts : u ≤ length new-counts)
-      {counts′ : List ℕ} (r : Raised rule K label ks (windows K label) counts counts′) where
+      {counts′ : List ℕ} (r : Raised κ rule K label ks (windows K label) counts counts′) where
     places-are : take u new-places ≡ placesOf ks xs
     places-are = cells-map (rank ks) new-places xs u (g .number) room-places (g .placed)
 
@@ -118,7 +118,7 @@ module _ {rule : Rule} {K : ℕ} {label : List ℕ} {n : ℕ} {keys counts : Lis
     room = length-take-le n counts′ (omega (arith, r .long, fit-room K n keys counts (a .fits))) ∙ sym long
 
     -- A stored k-mer's word is the one that it had, with its windows counted.
-    known-word : (y : ℕ) → stored ks y ≡ true → getD (take n counts′) (rank ks y) 0 ≡ tally rule K label y (windows K label) (wordOf t y)
+    known-word : (y : ℕ) → stored ks y ≡ true → getD (take n counts′) (rank ks y) 0 ≡ tally κ rule K label y (windows K label) (wordOf t y)
     known-word y s =
         let i : ℕ = rank ks y in
         let l : i < length ks = stored-lt ks y s in
@@ -126,14 +126,14 @@ module _ {rule : Rule} {K : ℕ} {label : List ℕ} {n : ℕ} {keys counts : Lis
         getD-take n counts′ i 0 h ∙ r .tallied i l ∙ rw (stored-at ks y s, getD-take n counts i 0 h)
 
     -- A new one's, from no counts.
-    new-word : (y : ℕ) → stored ks y ≡ false → word y ≡ tally rule K label y (windows K label) 0
-    new-word y n = tally-sort rule K label y fresh 0 (rows-numbered K label ks (windows K label)) ∙ rows-tally K label ks y rule (windows K label) 0 n
+    new-word : (y : ℕ) → stored ks y ≡ false → word y ≡ tally κ rule K label y (windows K label) 0
+    new-word y n = tally-sort κ rule K label y fresh 0 (rows-numbered K label ks (windows K label)) ∙ rows-tally K label ks y κ rule (windows K label) 0 n
 
     same-word : (y : ℕ) → stored (after .keys) y ≡ true
         → wordOf after y ≡ getD (wordsIn ks word (take n counts′) xs) (rank (after .keys) y) 0
     same-word y s =
         let p : stored (keysIn ks xs) y ≡ true = rw keys-are at s in
-        added-word rule K label (a .given .bases) t sound y s
+        added-word κ rule K label (a .given .bases) t sound y s
         ∙ ⊎-elim
         (λ (e : stored ks y ≡ true). rw e (sym (known-word y e)))
         (λ (e : stored ks y ≡ false). rw e (sym (new-word y e)))
@@ -147,7 +147,7 @@ module _ {rule : Rule} {K : ℕ} {label : List ℕ} {n : ℕ} {keys counts : Lis
         (in-length ks xs (map word xs) (take n counts′) (length-map xs word) room ∙ sym (ap length keys-are ∙ in-length ks xs xs ks refl refl))
         same-word
 
-    pub batch : Batched rule K label n keys counts u new-keys new-places new-counts counts′
+    pub batch : Batched κ rule K label n keys counts u new-keys new-places new-counts counts′
     batch = record {
       keys-in = rw places-are keys-are;
       counts-in = rw (places-are, words-are) counts-are;

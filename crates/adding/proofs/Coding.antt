@@ -12,7 +12,7 @@ use Rattle.dna.specs.Letters.{codeOf, complement}
 use Rattle.dna.proofs.Letters.{code-le}
 use Rattle.kmer.specs.Kmer.{isCanon}
 use Rattle.kmer.proofs.Windows.{Bases, bases-at}
-use Rattle.state.specs.Counted.{fourBits, counted}
+use Rattle.state.specs.Counted.{Kind, counted}
 use Rattle.state.specs.declared.Side.the-variants.{Front, Back}
 use Rattle.graph.specs.Sightings.{Rule, window, predecessor, successor}
 use Rattle.adding.specs.Batch.{codeAt, countedBy}
@@ -81,8 +81,8 @@ module _ (x y : ℕ) (hx : x ≤ 5) (hy : y ≤ 5) where
   back-of = omega arith
 
   -- Counting from the number counts the two.
-  pub both-counted : (w : ℕ) → countedBy (x + 8 * y) w ≡ counted fourBits (counted fourBits w Front x) Back y
-  both-counted w = rw (front-of, back-of)
+  pub both-counted : (κ : Kind) (w : ℕ) → countedBy κ (x + 8 * y) w ≡ counted κ (counted κ w Front x) Back y
+  both-counted κ w = rw (front-of, back-of)
 
 -- ---- in a label of bases none is N
 

@@ -11,7 +11,7 @@ use lib.Seq.{drop-drop}
 use borrow.Author.Tests.{lt-ltb, le-ltb, le-leb}
 use Rattle.dna.specs.Answer.{gives}
 use Rattle.dna.specs.Text.{over}
-use Rattle.state.specs.Counted.{fourBits}
+use Rattle.state.specs.Counted.{Kind}
 use Rattle.graph.specs.Table.{Table, tableOf, keysOf, wordsOf, capacity}
 use Rattle.graph.specs.Sightings.{Rule, windows}
 use Rattle.graph.specs.Adding.{Added, added, addBases}
@@ -27,14 +27,14 @@ use Rattle.adding.specs.declared.AddAnswer.{AddAnswer}
 use Rattle.adding.specs.declared.AddAnswer.the-variants as add
 use Rattle.adding.proofs.Batch.{batch, batch-number, batch-few}
 
-module _ {rule : Rule} {K : ℕ} {label : List ℕ} {n : ℕ} {keys counts : List ℕ} (a : Addable K label n keys counts)
+module _ {κ : Kind} {rule : Rule} {K : ℕ} {label : List ℕ} {n : ℕ} {keys counts : List ℕ} (a : Addable K label n keys counts)
     {u : ℕ} {new-keys new-places new-counts : List ℕ}
-    (g : Grouped rule K label (keysOf n keys) (sortedNew K label (keysOf n keys)) u new-keys new-places new-counts) where
+    (g : Grouped κ rule K label (keysOf n keys) (sortedNew K label (keysOf n keys)) u new-keys new-places new-counts) where
   abbrev whole : Added
-  whole = addBases fourBits rule K n keys counts label []
+  whole = addBases κ rule K n keys counts label []
 
   abbrev after : Table
-  after = added fourBits rule K label (tableOf n keys counts)
+  after = added κ rule K label (tableOf n keys counts)
 
   number : length (after .keys) ≡ n + u
   number = batch-number a g
@@ -48,14 +48,14 @@ module _ {rule : Rule} {K : ℕ} {label : List ℕ} {n : ℕ} {keys counts : Lis
 
   module _ (room : n + u ≤ capacity keys counts) (room-places : windows K label ≤ length new-places)
       (room-counts : windows K label ≤ length new-counts) {m : ℕ} (all : m ≡ windows K label)
-      {counts′ : List ℕ} (r : Raised rule K label (keysOf n keys) m counts counts′)
+      {counts′ : List ℕ} (r : Raised κ rule K label (keysOf n keys) m counts counts′)
       {j : JoinAnswer} {keys″ counts″ : List ℕ}
       (e : Joins j keys″ counts″ (joinCall n keys counts′ u new-places new-keys new-counts)) where
     -- Nothing past the stored vertices' counters was changed.
     same-rest : drop (length (after .counts)) counts′ ≡ drop (length (after .counts)) counts
     same-rest =
         let s : length (after .counts) ≡ length (keysOf n keys) + u =
-        added-sound fourBits rule K label (tableOf n keys counts) (inr (a .given .bases)) (fit-sound K n keys counts (a .fits)) .sizes
+        added-sound κ rule K label (tableOf n keys counts) (inr (a .given .bases)) (fit-sound K n keys counts (a .fits)) .sizes
         ∙ number ∙ ap (λ (i : ℕ). i + u) (sym (fit-length K n keys counts (a .fits))) in
         rw (s, ← drop-drop u (length (keysOf n keys)) counts′, ← drop-drop u (length (keysOf n keys)) counts, r .rest)
 

@@ -7,6 +7,7 @@ use native.Mathlib.Omega.{arith}
 use lib.Dec.{eqb}
 use lib.ListN.{length, length-append}
 use borrow.Author.Tests.{eqb-true, ne-eqb, not-true, not-false}
+use Rattle.state.specs.Counted.{Kind}
 use Rattle.lemmas.proofs.Tests.{choose, never}
 use Rattle.graph.specs.Table.{Table, stored, store}
 use Rattle.graph.specs.Sightings.{Rule}
@@ -73,19 +74,19 @@ module _ (K : ℕ) (label ks : List ℕ) where
 
   module _ (y : ℕ) where
     -- A k-mer that is not stored has all its windows among the rows.
-    pub rows-tally : (rule : Rule) (m w : ℕ) → stored ks y ≡ false → tallyRows rule K label y (newRows K label ks m) w ≡ tally rule K label y m w
+    pub rows-tally : (κ : Kind) (rule : Rule) (m w : ℕ) → stored ks y ≡ false → tallyRows κ rule K label y (newRows K label ks m) w ≡ tally κ rule K label y m w
     unfolding newRows tally tallyRows
-    rows-tally rule zero w n = refl
-    rows-tally rule (suc m) w n =
+    rows-tally κ rule zero w n = refl
+    rows-tally κ rule (suc m) w n =
         let x : ℕ = kmerAt K label m in
         let old : List Row = newRows K label ks m in
-        let ih = rows-tally rule m w n in
-        choose (λ (l : List Row). tallyRows rule K label y (old ++ l) w ≡ tally rule K label y (suc m) w) (isNew K label ks m)
-        (λ _. tally-append rule K label y old (record { key = x; number = m } ∷ []) w
-        ∙ ap (λ (v : ℕ). cond (eqb x y) (countedBy (codeAt rule K label m) v) v) ih)
+        let ih = rows-tally κ rule m w n in
+        choose (λ (l : List Row). tallyRows κ rule K label y (old ++ l) w ≡ tally κ rule K label y (suc m) w) (isNew K label ks m)
+        (λ _. tally-append κ rule K label y old (record { key = x; number = m } ∷ []) w
+        ∙ ap (λ (v : ℕ). cond (eqb x y) (countedBy κ (codeAt rule K label m) v) v) ih)
         (λ e.
         let q : eqb x y ≡ false = ne-eqb x y (λ d. never (stored ks y) (ap (stored ks) (sym d) ∙ not-false (stored ks x) e) n) in
-        rw q (tally-append rule K label y old [] w ∙ ih))
+        rw q (tally-append κ rule K label y old [] w ∙ ih))
 
     -- With the windows stored, y is stored if it was or is among the rows.
     pub rows-stored : (t : Table) → t .keys ≡ ks → (m : ℕ)

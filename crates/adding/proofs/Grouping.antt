@@ -7,6 +7,7 @@ use native.Mathlib.Omega.{arith}
 use lib.Dec.{ltb, eqb}
 use lib.ListN.{length, getD, set, length-set}
 use borrow.Author.Tests.{ltb-true, lt-ltb, eqb-true, eqb-false}
+use Rattle.state.specs.Counted.{Kind}
 use Rattle.lemmas.proofs.Tests.{both}
 use Rattle.kmer.specs.Kmer.{joined}
 use Rattle.graph.specs.Sightings.{Rule}
@@ -24,7 +25,7 @@ pub last-some : (u : ℕ) (b : Bool) {r : Bool} → r ≡ (ltb 0 u && b) → r �
 last-some u b e t = ltb-true 0 u (both (ltb 0 u) b (sym e ∙ t) .0)
 
 -- After t rows; the last vertex is of the last row.
-pub record Grouping (q : ℕ) (notes places offsets keys₀ places₀ counts₀ : List ℕ) (t u : ℕ) (keys new-places counts : List ℕ) :
+pub record Grouping (κ : Kind) (q : ℕ) (notes places offsets keys₀ places₀ counts₀ : List ℕ) (t u : ℕ) (keys new-places counts : List ℕ) :
     Type 0 where
   pub upto : t ≤ q
   pub few : u ≤ t
@@ -34,10 +35,10 @@ pub record Grouping (q : ℕ) (notes places offsets keys₀ places₀ counts₀ 
   pub kept : (i : ℕ) → 2 * t ≤ i → getD keys i 0 ≡ getD keys₀ i 0
   pub last : 0 < u → keyAt keys (u - 1) ≡ keyAt keys₀ (t - 1)
   pub grouped : (rule : Rule) (K : ℕ) (label ks : List ℕ) → Listed rule K label ks q notes places offsets keys₀
-      → Grouped rule K label ks (rows t keys₀ offsets) u keys new-places counts
+      → Grouped κ rule K label ks (rows t keys₀ offsets) u keys new-places counts
 
-module _ {q : ℕ} {notes places offsets keys₀ places₀ counts₀ : List ℕ} (y : Rowed q notes places offsets keys₀ places₀ counts₀) where
-  pub grouping-none : Grouping q notes places offsets keys₀ places₀ counts₀ 0 0 keys₀ places₀ counts₀
+module _ {κ : Kind} {q : ℕ} {notes places offsets keys₀ places₀ counts₀ : List ℕ} (y : Rowed q notes places offsets keys₀ places₀ counts₀) where
+  pub grouping-none : Grouping κ q notes places offsets keys₀ places₀ counts₀ 0 0 keys₀ places₀ counts₀
   unfolding keysOf rows hasKey
   grouping-none = record {
     upto = omega arith;
@@ -57,7 +58,7 @@ module _ {q : ℕ} {notes places offsets keys₀ places₀ counts₀ : List ℕ}
   }
 
   module _ {t u : ℕ} {keys new-places counts : List ℕ}
-      (v : Grouping q notes places offsets keys₀ places₀ counts₀ t u keys new-places counts) (h : t < q)
+      (v : Grouping κ q notes places offsets keys₀ places₀ counts₀ t u keys new-places counts) (h : t < q)
       {x : ℕ} (ex : x ≡ keyAt keys t) where
     here : x ≡ keyAt keys₀ t
     here = ex ∙ ap₂ joined (v .kept (2 * t) (omega arith)) (v .kept (2 * t + 1) (omega arith))
@@ -66,8 +67,8 @@ module _ {q : ℕ} {notes places offsets keys₀ places₀ counts₀ : List ℕ}
     next = rows-next t keys₀ offsets (omega (arith, y .keys-there)) (omega (arith, y .offsets-there))
 
     pub grouping-same : ltb 0 u && eqb (keyAt keys (u - 1)) x ≡ true
-        → {w : ℕ} → w ≡ countedBy (getD notes (getD offsets t 0) 0) (getD counts (u - 1) 0)
-        → Grouping q notes places offsets keys₀ places₀ counts₀ (t + 1) u keys new-places (set counts (u - 1) w)
+        → {w : ℕ} → w ≡ countedBy κ (getD notes (getD offsets t 0) 0) (getD counts (u - 1) 0)
+        → Grouping κ q notes places offsets keys₀ places₀ counts₀ (t + 1) u keys new-places (set counts (u - 1) w)
     grouping-same s {w} ew =
         let b = both (ltb 0 u) (eqb (keyAt keys (u - 1)) x) s in
         let at : keyAt keys (u - 1) ≡ keyAt keys₀ t = eqb-true (keyAt keys (u - 1)) x (b .1) ∙ here in
@@ -82,14 +83,14 @@ module _ {q : ℕ} {notes places offsets keys₀ places₀ counts₀ : List ℕ}
           last = λ a. rw back at;
           grouped = λ rule K label ks l.
               rw next
-              (grouped-same rule K label ks (rows t keys₀ offsets) (rowAt keys₀ offsets t) u keys new-places counts
+              (grouped-same κ rule K label ks (rows t keys₀ offsets) (rowAt keys₀ offsets t) u keys new-places counts
               (v .grouped rule K label ks l) (l .noted t h) (ltb-true 0 u (b .0)) at
               (rw (v .long-keys) (omega (arith, v .few, y .keys-there))) (omega (arith, v .few, v .long-counts, y .room-counts)) ew);
         }
 
     pub grouping-new : ltb 0 u && eqb (keyAt keys (u - 1)) x ≡ false
-        → {keys′ : List ℕ} → keys′ ≡ putKey keys u x → {w : ℕ} → w ≡ countedBy (getD notes (getD offsets t 0) 0) 0
-        → Grouping q notes places offsets keys₀ places₀ counts₀ (t + 1) (u + 1) keys′
+        → {keys′ : List ℕ} → keys′ ≡ putKey keys u x → {w : ℕ} → w ≡ countedBy κ (getD notes (getD offsets t 0) 0) 0
+        → Grouping κ q notes places offsets keys₀ places₀ counts₀ (t + 1) (u + 1) keys′
         (set new-places u (getD places (getD offsets t 0) 0)) (set counts u w)
     grouping-new s {keys′} ek {w} ew =
         let p : ℕ = getD places (getD offsets t 0) 0 in
@@ -108,7 +109,7 @@ module _ {q : ℕ} {notes places offsets keys₀ places₀ counts₀ : List ℕ}
           last = λ a. rw (end, back, ek) (put-key keys u x lk ∙ here);
           grouped = λ rule K label ks l.
               rw (next, ek, here)
-              (grouped-new rule K label ks (rows t keys₀ offsets) (rowAt keys₀ offsets t) u keys new-places counts
+              (grouped-new κ rule K label ks (rows t keys₀ offsets) (rowAt keys₀ offsets t) u keys new-places counts
               (v .grouped rule K label ks l) (l .noted t h)
               (λ a.
               omega (
@@ -124,7 +125,7 @@ module _ {q : ℕ} {notes places offsets keys₀ places₀ counts₀ : List ℕ}
         }
 
   pub grouping-all : {t u : ℕ} {keys new-places counts : List ℕ}
-      → Grouping q notes places offsets keys₀ places₀ counts₀ t u keys new-places counts → q ≤ t
+      → Grouping κ q notes places offsets keys₀ places₀ counts₀ t u keys new-places counts → q ≤ t
       → (rule : Rule) (K : ℕ) (label ks : List ℕ) → Listed rule K label ks q notes places offsets keys₀
-      → Grouped rule K label ks (rows q keys₀ offsets) u keys new-places counts
+      → Grouped κ rule K label ks (rows q keys₀ offsets) u keys new-places counts
   grouping-all {t} v h = let e : t ≡ q = omega (arith, v .upto) in rw e at (v .grouped)

@@ -9,6 +9,7 @@ use lib.ListN.{length, getD, drop}
 use borrow.Author.Tests.{le-leb}
 use Rattle.dna.specs.Text.{over}
 use Rattle.kmer.specs.Kmer.{low, high, joined}
+use Rattle.state.specs.Counted.{Kind}
 use Rattle.graph.specs.Table.{wordsOf, rank}
 use Rattle.graph.specs.Sightings.{Rule, windows}
 use Rattle.graph.proofs.Lookup.{Key}
@@ -123,7 +124,7 @@ module _ {rule : Rule} {K : ℕ} {label ks : List ℕ} {q : ℕ} {notes places k
   }
 
   -- So the vertices made of the rows are those of the new rows in order.
-  pub sorted-grouped : {u : ℕ} {new-keys new-places new-counts : List ℕ}
-      → (Listed rule K label ks q notes places offsets keys → Grouped rule K label ks (rows q keys offsets) u new-keys new-places new-counts)
-      → Grouped rule K label ks rs u new-keys new-places new-counts
+  pub sorted-grouped : {κ : Kind} {u : ℕ} {new-keys new-places new-counts : List ℕ}
+      → (Listed rule K label ks q notes places offsets keys → Grouped κ rule K label ks (rows q keys offsets) u new-keys new-places new-counts)
+      → Grouped κ rule K label ks rs u new-keys new-places new-counts
   sorted-grouped made = rw sorted-rows at (made listed)

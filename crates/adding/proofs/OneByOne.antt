@@ -11,7 +11,7 @@ use types.Run.{OneOf, miss}
 use lib.ListN.{length, getD, take, drop}
 use lib.Seq.{drop-cons}
 use Rattle.dna.specs.Answer.{gives, refuses}
-use Rattle.state.specs.Counted.{fourBits}
+use Rattle.state.specs.Counted.{Kind}
 use Rattle.graph.specs.Sightings.{Rule}
 use Rattle.graph.specs.Adding.{addLabel}
 use Rattle.graph.specs.Entries.{within, listed}
@@ -32,15 +32,15 @@ state i edges stored keys counts =
 
 -- ---- one label more
 
-module _ (rule : Rule) (K : ℕ) where
+module _ (κ : Kind) (rule : Rule) (K : ℕ) where
   abbrev each : Several → List (List ℕ) → Several
-  each s ls = addEach fourBits rule K s ls
+  each s ls = addEach κ rule K s ls
 
   module _ (i edges stored : ℕ) (keys counts label : List ℕ) (ls : List (List ℕ)) {r : AddAnswer} {keys′ counts′ : List ℕ}
-      (a : Adds r keys′ counts′ (addLabel fourBits rule K stored keys counts label)) where
+      (a : Adds r keys′ counts′ (addLabel κ rule K stored keys counts label)) where
     -- It is added.
     module _ (e m : ℕ) (q : r ≡ add.Added e m) where
-      answered : addLabel fourBits rule K stored keys counts label .answer ≡ gives (record { edges = e; stored = m })
+      answered : addLabel κ rule K stored keys counts label .answer ≡ gives (record { edges = e; stored = m })
       answered = sym (a .answer) ∙ ap addAnswer q
 
       each-more : each (state i edges stored keys counts) (label ∷ ls) ≡ each (state (i + 1) e m keys′ counts′) ls
@@ -48,10 +48,10 @@ module _ (rule : Rule) (K : ℕ) where
       each-more = rw (answered, addNext, add-one, a .keys-after, a .counts-after)
 
       -- It leaves a fit table.
-      more-ready : Ready K m keys′ counts′
+      more-ready : Ready κ K m keys′ counts′
       more-ready = (
-        accepted fourBits rule K stored keys counts label _ answered .ok,
-        rw (a .keys-after, a .counts-after) (accepted-fit fourBits rule K stored keys counts label _ answered),
+        accepted κ rule K stored keys counts label _ answered .ok,
+        rw (a .keys-after, a .counts-after) (accepted-fit κ rule K stored keys counts label _ answered),
       )
 
     -- It is refused, and no other is tried.
@@ -59,9 +59,9 @@ module _ (rule : Rule) (K : ℕ) where
         → AddsLabels n (labels.Tried i stored r) keys′ counts′ (each (state i edges stored keys counts) (label ∷ ls))
     unfolding addEach addNext
     each-ends n x vs q =
-        let h : addLabel fourBits rule K stored keys counts label .answer ≡ refuses x vs = sym (a .answer) ∙ q in
-        let after = addLabel fourBits rule K stored keys counts label in
-        rw (h, addNext, none-after fourBits rule K x vs i stored (after .keys) (after .counts) ls) (record { says = (refl, refl, q); keys-after = a .keys-after; counts-after = a .counts-after })
+        let h : addLabel κ rule K stored keys counts label .answer ≡ refuses x vs = sym (a .answer) ∙ q in
+        let after = addLabel κ rule K stored keys counts label in
+        rw (h, addNext, none-after κ rule K x vs i stored (after .keys) (after .counts) ls) (record { says = (refl, refl, q); keys-after = a .keys-after; counts-after = a .counts-after })
 
 -- What is not `Added` is a refusal.
 pub record Refused (r : AddAnswer) : Type 0 where
@@ -93,17 +93,17 @@ left-next text count starts lengths w i h =
     rw (e, drop-cons starts i 0 (omega (arith, l .0)), drop-cons lengths i 0 (omega (arith, l .1)), add-one)
 
 -- The labels of the first i entries are added to n vertices, the last with so many edges.
-pub record SomeAdded (rule : Rule) (K n : ℕ) (keys₀ counts₀ text starts lengths : List ℕ) (count i edges stored : ℕ) (keys counts : List ℕ) : Type 0 where
+pub record SomeAdded (κ : Kind) (rule : Rule) (K n : ℕ) (keys₀ counts₀ text starts lengths : List ℕ) (count i edges stored : ℕ) (keys counts : List ℕ) : Type 0 where
   pub inside : within text count starts lengths ≡ true
   pub some : i ≤ count
-  pub all : addEach fourBits rule K (untried n keys₀ counts₀) (listed count text starts lengths)
-      ≡ addEach fourBits rule K (state i edges stored keys counts) (left text count starts lengths i)
-  pub ready : 0 < i → Ready K stored keys counts
+  pub all : addEach κ rule K (untried n keys₀ counts₀) (listed count text starts lengths)
+      ≡ addEach κ rule K (state i edges stored keys counts) (left text count starts lengths i)
+  pub ready : 0 < i → Ready κ K stored keys counts
   pub long-keys : length keys ≡ length keys₀
   pub long-counts : length counts ≡ length counts₀
 
-module _ {rule : Rule} {K n : ℕ} {keys₀ counts₀ text starts lengths : List ℕ} {count : ℕ} where
-  pub added-none : within text count starts lengths ≡ true → SomeAdded rule K n keys₀ counts₀ text starts lengths count 0 0 n keys₀ counts₀
+module _ {κ : Kind} {rule : Rule} {K n : ℕ} {keys₀ counts₀ text starts lengths : List ℕ} {count : ℕ} where
+  pub added-none : within text count starts lengths ≡ true → SomeAdded κ rule K n keys₀ counts₀ text starts lengths count 0 0 n keys₀ counts₀
   added-none w = record {
     inside = w;
     some = omega arith;
@@ -113,9 +113,9 @@ module _ {rule : Rule} {K n : ℕ} {keys₀ counts₀ text starts lengths : List
     long-counts = refl;
   }
 
-  module _ {i edges stored : ℕ} {keys counts : List ℕ} (s : SomeAdded rule K n keys₀ counts₀ text starts lengths count i edges stored keys counts) where
+  module _ {i edges stored : ℕ} {keys counts : List ℕ} (s : SomeAdded κ rule K n keys₀ counts₀ text starts lengths count i edges stored keys counts) where
     pub added-all : count ≤ i → AddsLabels n (labels.Tried i stored (add.Added edges stored)) keys counts
-        (addEach fourBits rule K (untried n keys₀ counts₀) (listed count text starts lengths))
+        (addEach κ rule K (untried n keys₀ counts₀) (listed count text starts lengths))
     unfolding listed addEach
     added-all h =
         let e : count - i ≡ 0 = omega arith in
@@ -132,28 +132,28 @@ module _ {rule : Rule} {K n : ℕ} {keys₀ counts₀ text starts lengths : List
 
       -- The next label, as it is lent, is added or refused.
       module _ {start end : ℕ} (p : start ≡ getD starts i 0) (q : end ≡ start + getD lengths i 0) {r : AddAnswer} {keys′ counts′ : List ℕ}
-          (a : Adds r keys′ counts′ (addLabel fourBits rule K stored keys counts (take (end - start) (drop start text)))) where
+          (a : Adds r keys′ counts′ (addLabel κ rule K stored keys counts (take (end - start) (drop start text)))) where
         rest : left text count starts lengths i ≡ take (end - start) (drop start text) ∷ left text count starts lengths (i + 1)
         rest =
             let e : end - start ≡ getD lengths i 0 = omega arith in
             left-next text count starts lengths (s .inside) i more ∙ rw (e, p)
 
         pub added-more : (e m : ℕ) → r ≡ add.Added e m → length keys′ ≡ length keys → length counts′ ≡ length counts
-            → SomeAdded rule K n keys₀ counts₀ text starts lengths count (i + 1) e m keys′ counts′
+            → SomeAdded κ rule K n keys₀ counts₀ text starts lengths count (i + 1) e m keys′ counts′
         added-more e m t lk lc =
             let label = take (end - start) (drop start text) in
             record {
               inside = s .inside;
               some = omega arith;
-              all = s .all ∙ ap (λ (ls : List (List ℕ)). each rule K (state i edges stored keys counts) ls) rest
-                  ∙ each-more rule K i edges stored keys counts label (left text count starts lengths (i + 1)) a e m t;
-              ready = λ _. more-ready rule K i edges stored keys counts label (left text count starts lengths (i + 1)) a e m t;
+              all = s .all ∙ ap (λ (ls : List (List ℕ)). each κ rule K (state i edges stored keys counts) ls) rest
+                  ∙ each-more κ rule K i edges stored keys counts label (left text count starts lengths (i + 1)) a e m t;
+              ready = λ _. more-ready κ rule K i edges stored keys counts label (left text count starts lengths (i + 1)) a e m t;
               long-keys = lk ∙ s .long-keys;
               long-counts = lc ∙ s .long-counts;
             }
 
         pub added-ends : Refused r → AddsLabels n (labels.Tried i stored r) keys′ counts′
-            (addEach fourBits rule K (untried n keys₀ counts₀) (listed count text starts lengths))
+            (addEach κ rule K (untried n keys₀ counts₀) (listed count text starts lengths))
         added-ends f =
             rw (s .all, rest)
-            (each-ends rule K i edges stored keys counts (take (end - start) (drop start text)) (left text count starts lengths (i + 1)) a n (f .number) (f .values) (f .is))
+            (each-ends κ rule K i edges stored keys counts (take (end - start) (drop start text)) (left text count starts lengths (i + 1)) a n (f .number) (f .values) (f .is))

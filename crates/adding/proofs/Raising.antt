@@ -10,6 +10,7 @@ use lib.Dec.{eqb}
 use lib.ListN.{length, getD, set, length-set}
 use lib.Seq.{getD-set-same, getD-set-other, drop-set-lt}
 use borrow.Author.Tests.{eqb-true, eqb-false, eq-eqb, ne-eqb}
+use Rattle.state.specs.Counted.{Kind}
 use Rattle.lemmas.proofs.Numbers.{true-or-false}
 use Rattle.lemmas.proofs.Tests.{never}
 use Rattle.graph.specs.Sightings.{Rule}
@@ -21,14 +22,6 @@ use Rattle.adding.specs.Says.{Known}
 use Rattle.adding.proofs.Coding.{code-small}
 
 module _ (rule : Rule) (K : ℕ) (label : List ℕ) where
-  tally-here : (y m w : ℕ) → kmerAt K label m ≡ y → tally rule K label y (suc m) w ≡ countedBy (codeAt rule K label m) (tally rule K label y m w)
-  unfolding tally
-  tally-here y m w e = rw (eq-eqb (kmerAt K label m) y e)
-
-  tally-other : (y m w : ℕ) → (kmerAt K label m ≡ y → ⊥) → tally rule K label y (suc m) w ≡ tally rule K label y m w
-  unfolding tally
-  tally-other y m w n = rw (ne-eqb (kmerAt K label m) y n)
-
   -- A note tells whether its k-mer is stored.
   module _ (ks : List ℕ) (i : ℕ) {note : ℕ} (e : note ≡ noteAt rule K label ks i) where
     pub known-note : note < 64 → (stored ks (kmerAt K label i) ≡ true) × (note ≡ codeAt rule K label i)
@@ -51,18 +44,27 @@ module _ (rule : Rule) (K : ℕ) (label : List ℕ) where
         (λ s. s)
         (true-or-false (stored ks (kmerAt K label i)))
 
+module _ (κ : Kind) (rule : Rule) (K : ℕ) (label : List ℕ) where
+  tally-here : (y m w : ℕ) → kmerAt K label m ≡ y → tally κ rule K label y (suc m) w ≡ countedBy κ (codeAt rule K label m) (tally κ rule K label y m w)
+  unfolding tally
+  tally-here y m w e = rw (eq-eqb (kmerAt K label m) y e)
+
+  tally-other : (y m w : ℕ) → (kmerAt K label m ≡ y → ⊥) → tally κ rule K label y (suc m) w ≡ tally κ rule K label y m w
+  unfolding tally
+  tally-other y m w n = rw (ne-eqb (kmerAt K label m) y n)
+
   module _ (ks : List ℕ) (fits : fitFrom K 0 ks ≡ true) (m : ℕ) (notes places : List ℕ) (looked : Looked rule K label ks m notes places)
-      (o : ℕ) (h : o < m) {counts₀ counts : List ℕ} (v : Raised rule K label ks o counts₀ counts) where
+      (o : ℕ) (h : o < m) {counts₀ counts : List ℕ} (v : Raised κ rule K label ks o counts₀ counts) where
     raised-known : getD notes o 0 < 64 → getD places o 0 < length counts
-        → Raised rule K label ks (suc o) counts₀ (set counts (getD places o 0) (countedBy (getD notes o 0) (getD counts (getD places o 0) 0)))
+        → Raised κ rule K label ks (suc o) counts₀ (set counts (getD places o 0) (countedBy κ (getD notes o 0) (getD counts (getD places o 0) 0)))
     raised-known s l =
-        let n = known-note ks o (looked .noted o h) s in
+        let n = known-note rule K label ks o (looked .noted o h) s in
         let x : ℕ = kmerAt K label o in
         let i : ℕ = getD places o 0 in
         let p : i ≡ rank ks x = looked .placed o h in
         let lt : i < length ks = omega (arith, stored-lt ks x (n .0)) in
         let at : getD ks i 0 ≡ x = rw p (stored-at ks x (n .0)) in
-        let w : ℕ = countedBy (getD notes o 0) (getD counts i 0) in
+        let w : ℕ = countedBy κ (getD notes o 0) (getD counts i 0) in
         record {
           long = length-set counts i w ∙ v .long;
           tallied = λ g b.
@@ -80,9 +82,9 @@ module _ (rule : Rule) (K : ℕ) (label : List ℕ) where
           rest = drop-set-lt (length ks) counts i w lt ∙ v .rest;
         }
 
-    raised-new : 64 ≤ getD notes o 0 → Raised rule K label ks (suc o) counts₀ counts
+    raised-new : 64 ≤ getD notes o 0 → Raised κ rule K label ks (suc o) counts₀ counts
     raised-new s =
-        let n = new-note ks o (looked .noted o h) s in
+        let n = new-note rule K label ks o (looked .noted o h) s in
         record {
           long = v .long;
           tallied = λ g b.
@@ -93,13 +95,13 @@ module _ (rule : Rule) (K : ℕ) (label : List ℕ) where
         }
 
 -- After o windows.
-pub record Raising (m : ℕ) (notes places counts₀ : List ℕ) (o : ℕ) (counts : List ℕ) : Type 0 where
+pub record Raising (κ : Kind) (m : ℕ) (notes places counts₀ : List ℕ) (o : ℕ) (counts : List ℕ) : Type 0 where
   pub upto : o ≤ m
   pub long : length counts ≡ length counts₀
-  pub raised : (rule : Rule) (K : ℕ) (label ks : List ℕ) → fitFrom K 0 ks ≡ true → Looked rule K label ks m notes places → Raised rule K label ks o counts₀ counts
+  pub raised : (rule : Rule) (K : ℕ) (label ks : List ℕ) → fitFrom K 0 ks ≡ true → Looked rule K label ks m notes places → Raised κ rule K label ks o counts₀ counts
 
-module _ {m : ℕ} {notes places counts₀ : List ℕ} where
-  pub raising-none : Raising m notes places counts₀ 0 counts₀
+module _ {κ : Kind} {m : ℕ} {notes places counts₀ : List ℕ} where
+  pub raising-none : Raising κ m notes places counts₀ 0 counts₀
   unfolding tally
   raising-none = record {
     upto = omega arith;
@@ -107,26 +109,26 @@ module _ {m : ℕ} {notes places counts₀ : List ℕ} where
     raised = λ rule K label ks f l. record { long = refl; tallied = λ g b. refl; rest = refl };
   }
 
-  module _ (y : Known m notes places counts₀) {o : ℕ} {counts : List ℕ} (v : Raising m notes places counts₀ o counts) (h : o < m) where
+  module _ (y : Known m notes places counts₀) {o : ℕ} {counts : List ℕ} (v : Raising κ m notes places counts₀ o counts) (h : o < m) where
     pub counter-now : getD notes o 0 < 64 → getD places o 0 < length counts
     counter-now s = rw (v .long) (y .counter-there o h s)
 
-    pub raising-known : getD notes o 0 < 64 → {w : ℕ} → w ≡ countedBy (getD notes o 0) (getD counts (getD places o 0) 0)
-        → Raising m notes places counts₀ (o + 1) (set counts (getD places o 0) w)
+    pub raising-known : getD notes o 0 < 64 → {w : ℕ} → w ≡ countedBy κ (getD notes o 0) (getD counts (getD places o 0) 0)
+        → Raising κ m notes places counts₀ (o + 1) (set counts (getD places o 0) w)
     raising-known s {w} e = record {
       upto = omega arith;
       long = length-set counts (getD places o 0) w ∙ v .long;
       raised = λ rule K label ks f l.
-          rw (add-one o, e) (raised-known rule K label ks f m notes places l o h (v .raised rule K label ks f l) s (counter-now s));
+          rw (add-one o, e) (raised-known κ rule K label ks f m notes places l o h (v .raised rule K label ks f l) s (counter-now s));
     }
 
-    pub raising-new : 64 ≤ getD notes o 0 → Raising m notes places counts₀ (o + 1) counts
+    pub raising-new : 64 ≤ getD notes o 0 → Raising κ m notes places counts₀ (o + 1) counts
     raising-new s = record {
       upto = omega arith;
       long = v .long;
-      raised = λ rule K label ks f l. rw (add-one o) (raised-new rule K label ks f m notes places l o h (v .raised rule K label ks f l) s);
+      raised = λ rule K label ks f l. rw (add-one o) (raised-new κ rule K label ks f m notes places l o h (v .raised rule K label ks f l) s);
     }
 
-  pub raising-all : {o : ℕ} {counts : List ℕ} → Raising m notes places counts₀ o counts → m ≤ o
-      → (rule : Rule) (K : ℕ) (label ks : List ℕ) → fitFrom K 0 ks ≡ true → Looked rule K label ks m notes places → Raised rule K label ks m counts₀ counts
+  pub raising-all : {o : ℕ} {counts : List ℕ} → Raising κ m notes places counts₀ o counts → m ≤ o
+      → (rule : Rule) (K : ℕ) (label ks : List ℕ) → fitFrom K 0 ks ≡ true → Looked rule K label ks m notes places → Raised κ rule K label ks m counts₀ counts
   raising-all {o} v h = let e : o ≡ m = omega (arith, v .upto) in rw e at (v .raised)

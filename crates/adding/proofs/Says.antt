@@ -59,10 +59,17 @@ labels-back : (n : ℕ) (r : LabelsAnswer) (s : Several) → labelsSay n r s →
 labels-back n (labels.Tried m stored last) s h = rw (← h .0, ← h .1, ← h .2) (added-back m stored last)
 labels-back n labels.OutOfText s h = rw (← h .2)
 
+-- What is said is fixed by the labels added, the number stored and the last answer.
+pub labels-inj : (n : ℕ) (r s : LabelsAnswer) (a b : Several) → labelsSay n r a → labelsSay n s b
+    → a .labels ≡ b .labels → a .stored ≡ b .stored → a .answer ≡ b .answer → r ≡ s
+labels-inj n r s a b t u p q e =
+    let c : labelsCase (a .labels) (a .stored) (a .answer) ≡ labelsCase (b .labels) (b .stored) (b .answer) = rw (p, q, e) in
+    sym (labels-back n r a t) ∙ c ∙ labels-back n s b u
+
 pub adds-labels-one : (n : ℕ) (r s : LabelsAnswer) {keys keys′ counts counts′ : List ℕ} {a : Several} → AddsLabels n r keys counts a
     → AddsLabels n s keys′ counts′ a → (r ≡ s) × (keys ≡ keys′) × (counts ≡ counts′)
 adds-labels-one n r s {a = a} t u = (
-  sym (labels-back n r a (t .says)) ∙ labels-back n s a (u .says),
+  labels-inj n r s a a (t .says) (u .says) refl refl refl,
   t .keys-after ∙ sym (u .keys-after),
   t .counts-after ∙ sym (u .counts-after),
 )

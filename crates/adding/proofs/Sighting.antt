@@ -10,7 +10,7 @@ use Rattle.dna.specs.Letters.{complement}
 use Rattle.kmer.specs.Kmer.{isCanon}
 use Rattle.state.specs.declared.Side.{Side}
 use Rattle.state.specs.declared.Side.the-variants.{Front, Back}
-use Rattle.state.specs.Counted.{Kind, fourBits, raise, counted, slotOf}
+use Rattle.state.specs.Counted.{Kind, raise, counted, slotOf}
 use Rattle.graph.specs.Table.{Table, rank, sight}
 use Rattle.graph.specs.Sightings.{Rule, window, predecessor, successor, sighting, sightingsAt}
 use Rattle.graph.specs.Adding.{sightAll}
@@ -52,7 +52,7 @@ module _ (κ : Kind) (t : Table) (x : ℕ) (inside : rank (t .keys) x < length (
       ∙ ap (λ (cs : List ℕ). record { keys = t .keys; counts = cs }) (set-set (t .counts) i w (counted κ w Back q))
 
 -- Those of one window.
-module _ (rule : Rule) (K : ℕ) (label : List ℕ) (o : ℕ) (t : Table) where
+module _ (κ : Kind) (rule : Rule) (K : ℕ) (label : List ℕ) (o : ℕ) (t : Table) where
   abbrev vertex : ℕ
   vertex = kmerAt K label o
 
@@ -69,19 +69,19 @@ module _ (rule : Rule) (K : ℕ) (label : List ℕ) (o : ℕ) (t : Table) where
   q = successor K label o
 
   pub window-sighted : place < length (t .counts)
-      → sightAll fourBits t (sightingsAt rule K label o) .counts ≡ set (t .counts) place (countedBy (codeAt rule K label o) old)
+      → sightAll κ t (sightingsAt rule K label o) .counts ≡ set (t .counts) place (countedBy κ (codeAt rule K label o) old)
   unfolding sightingsAt codeAt
   window-sighted h = ap (λ (u : Table). u .counts) (go (isCanon K (window K label o)))
     where
       two : (x y : ℕ) → x ≤ 5 → y ≤ 5
-          → sightAll fourBits t (sighting vertex Front x ++ sighting vertex Back y) ≡ wordAt t place (countedBy (x + 8 * y) old)
-      two x y hx hy = two-sides fourBits t vertex h x y ∙ ap (wordAt t place) (sym (both-counted x y hx hy old))
+          → sightAll κ t (sighting vertex Front x ++ sighting vertex Back y) ≡ wordAt t place (countedBy κ (x + 8 * y) old)
+      two x y hx hy = two-sides κ t vertex h x y ∙ ap (wordAt t place) (sym (both-counted x y hx hy κ old))
 
       go : (s : Bool)
-          → sightAll fourBits t
+          → sightAll κ t
           (cond s (sighting vertex Front p ++ sighting vertex Back q)
           (sighting vertex Front (complement q) ++ sighting vertex Back (complement p)))
-          ≡ wordAt t place (countedBy (cond s (p + 8 * q) (complement q + 8 * complement p)) old)
+          ≡ wordAt t place (countedBy κ (cond s (p + 8 * q) (complement q + 8 * complement p)) old)
       go true = two p q (predecessor-most K label o rule) (successor-most K label o)
       go false =
           two (complement q) (complement p) (turned-most q (successor-most K label o)) (turned-most p (predecessor-most K label o rule))

@@ -7,6 +7,7 @@ use Prim.Native.Nat.{ℕ, _<_, _≤_}
 use native.Mathlib.Omega.{arith}
 use lib.Dec.{ltb, eqb}
 use borrow.Author.Tests.{ltb-true, ltb-false, le-ltb, eqb-true, ne-eqb}
+use Rattle.state.specs.Counted.{Kind}
 use Rattle.lemmas.proofs.Tests.{choose, both, or-first, never}
 use Rattle.lemmas.proofs.Numbers.{true-or-false}
 use Rattle.sorting.specs.Index.{putBy, sortBy}
@@ -51,10 +52,10 @@ module _ (y : ℕ) where
 
 -- ---- its counters
 
-module _ (rule : Rule) (K : ℕ) (label : List ℕ) (y : ℕ) where
+module _ (κ : Kind) (rule : Rule) (K : ℕ) (label : List ℕ) (y : ℕ) where
   -- A word with a row counted, if the row is y's.
   abbrev step : Row → ℕ → ℕ
-  step r w = cond (eqb (r .key) y) (countedBy (codeAt rule K label (r .number)) w) w
+  step r w = cond (eqb (r .key) y) (countedBy κ (codeAt rule K label (r .number)) w) w
 
   -- Rows of two k-mers may change places.
   steps-swap : (r s : Row) (w : ℕ) → s .key < r .key → step r (step s w) ≡ step s (step r w)
@@ -64,15 +65,15 @@ module _ (rule : Rule) (K : ℕ) (label : List ℕ) (y : ℕ) where
       (λ e. rw e) (true-or-false (eqb (r .key) y))
 
   tally-put : (r : Row) (rs : List Row) (w : ℕ) → Each (λ s. r .number < s .number) rs
-      → tallyRows rule K label y (putBy comesFirst r rs) w ≡ tallyRows rule K label y rs (step r w)
+      → tallyRows κ rule K label y (putBy comesFirst r rs) w ≡ tallyRows κ rule K label y rs (step r w)
   unfolding tallyRows putBy
   tally-put r [] w a = refl
   tally-put r (s ∷ rs) w a =
       let ih = tally-put r rs (step s w) (a .1) in
-      choose (λ (l : List Row). tallyRows rule K label y l w ≡ tallyRows rule K label y rs (step s (step r w))) (comesFirst s r)
-      (λ c. ih ∙ ap (tallyRows rule K label y rs) (steps-swap r s w (passes s r (a .0) c))) (λ _. refl)
+      choose (λ (l : List Row). tallyRows κ rule K label y l w ≡ tallyRows κ rule K label y rs (step s (step r w))) (comesFirst s r)
+      (λ c. ih ∙ ap (tallyRows κ rule K label y rs) (steps-swap r s w (passes s r (a .0) c))) (λ _. refl)
 
-  pub tally-sort : (rs : List Row) (w : ℕ) → Numbered rs → tallyRows rule K label y (sortBy comesFirst rs) w ≡ tallyRows rule K label y rs w
+  pub tally-sort : (rs : List Row) (w : ℕ) → Numbered rs → tallyRows κ rule K label y (sortBy comesFirst rs) w ≡ tallyRows κ rule K label y rs w
   unfolding tallyRows sortBy
   tally-sort [] w n = refl
   tally-sort (r ∷ rs) w n =

@@ -7,6 +7,7 @@ use native.Mathlib.Omega.{arith}
 use lib.Dec.{eqb}
 use borrow.Author.Tests.{eq-eqb, ne-eqb}
 use Rattle.lemmas.proofs.Tests.{or-first, or-second}
+use Rattle.state.specs.Counted.{Kind}
 use Rattle.graph.specs.Sightings.{Rule}
 use Rattle.keysort.specs.Rows.{Row}
 use Rattle.adding.specs.Batch.{countedBy, hasKey, codeAt, tallyRows}
@@ -27,8 +28,8 @@ unfolding hasKey
 has-snoc y rs r = has-append y rs (r ∷ []) ∙ ap (λ (b : Bool). hasKey y rs || b) (or-false (eqb (r .key) y))
 
 -- The bit above the two neighbours is not counted.
-pub marked-counts : (c w : ℕ) → countedBy (c + 64) w ≡ countedBy c w
-marked-counts c w =
+pub marked-counts : (κ : Kind) (c w : ℕ) → countedBy κ (c + 64) w ≡ countedBy κ c w
+marked-counts κ c w =
     let f : (c + 64) % 8 ≡ c % 8 = omega arith in
     let e : (c + 64) / 8 ≡ c / 8 + 8 = omega arith in
     rw (f, e, round (c / 8))
@@ -36,23 +37,23 @@ marked-counts c w =
     round : (n : ℕ) → (n + 8) % 8 ≡ n % 8
     round n = omega arith
 
-module _ (rule : Rule) (K : ℕ) (label : List ℕ) where
-  pub tally-append : (y : ℕ) (rs ss : List Row) (w : ℕ) → tallyRows rule K label y (rs ++ ss) w ≡ tallyRows rule K label y ss (tallyRows rule K label y rs w)
+module _ (κ : Kind) (rule : Rule) (K : ℕ) (label : List ℕ) where
+  pub tally-append : (y : ℕ) (rs ss : List Row) (w : ℕ) → tallyRows κ rule K label y (rs ++ ss) w ≡ tallyRows κ rule K label y ss (tallyRows κ rule K label y rs w)
   unfolding tallyRows
   tally-append y [] ss w = refl
-  tally-append y (r ∷ rs) ss w = tally-append y rs ss (cond (eqb (r .key) y) (countedBy (codeAt rule K label (r .number)) w) w)
+  tally-append y (r ∷ rs) ss w = tally-append y rs ss (cond (eqb (r .key) y) (countedBy κ (codeAt rule K label (r .number)) w) w)
 
   module _ (y : ℕ) (rs : List Row) (r : Row) (w : ℕ) where
-    pub row-counted : r .key ≡ y → tallyRows rule K label y (rs ++ (r ∷ [])) w ≡ countedBy (codeAt rule K label (r .number)) (tallyRows rule K label y rs w)
+    pub row-counted : r .key ≡ y → tallyRows κ rule K label y (rs ++ (r ∷ [])) w ≡ countedBy κ (codeAt rule K label (r .number)) (tallyRows κ rule K label y rs w)
     unfolding tallyRows
     row-counted e = tally-append y rs (r ∷ []) w ∙ rw (eq-eqb (r .key) y e)
 
-    pub row-passed : (r .key ≡ y → ⊥) → tallyRows rule K label y (rs ++ (r ∷ [])) w ≡ tallyRows rule K label y rs w
+    pub row-passed : (r .key ≡ y → ⊥) → tallyRows κ rule K label y (rs ++ (r ∷ [])) w ≡ tallyRows κ rule K label y rs w
     unfolding tallyRows
     row-passed n = tally-append y rs (r ∷ []) w ∙ rw (ne-eqb (r .key) y n)
 
   -- Rows of other k-mers count nothing.
-  pub tally-none : (y : ℕ) (rs : List Row) (w : ℕ) → hasKey y rs ≡ false → tallyRows rule K label y rs w ≡ w
+  pub tally-none : (y : ℕ) (rs : List Row) (w : ℕ) → hasKey y rs ≡ false → tallyRows κ rule K label y rs w ≡ w
   unfolding tallyRows hasKey
   tally-none y [] w h = refl
   tally-none y (p ∷ rs) w h =

@@ -9,6 +9,7 @@ use lib.Dec.{eqb}
 use lib.ListN.{length, getD, set, length-append, List·getD-append}
 use lib.Seq.{getD-set-same, getD-set-other, getD-at}
 use borrow.Author.Tests.{eqb-true, eqb-false}
+use Rattle.state.specs.Counted.{Kind}
 use Rattle.lemmas.proofs.Numbers.{true-or-false}
 use Rattle.lemmas.proofs.Tests.{never}
 use Rattle.kmer.specs.Kmer.{isCanon}
@@ -23,13 +24,13 @@ use Rattle.adding.proofs.Above.{above-new, above-fit, above-stored}
 use Rattle.adding.proofs.Tallies.{or-absorbs, has-snoc, marked-counts, row-counted, row-passed, tally-none}
 
 -- One row more, with the note of its window.
-module _ (rule : Rule) (K : ℕ) (label ks : List ℕ) (rs : List Row) (r : Row) (u : ℕ) (keys places counts : List ℕ)
-    (g : Grouped rule K label ks rs u keys places counts) {note : ℕ} (en : note ≡ codeAt rule K label (r .number) + 64) where
+module _ (κ : Kind) (rule : Rule) (K : ℕ) (label ks : List ℕ) (rs : List Row) (r : Row) (u : ℕ) (keys places counts : List ℕ)
+    (g : Grouped κ rule K label ks rs u keys places counts) {note : ℕ} (en : note ≡ codeAt rule K label (r .number) + 64) where
   abbrev kk : List ℕ
   kk = keysOf u keys
 
-  counts-note : (w : ℕ) → countedBy note w ≡ countedBy (codeAt rule K label (r .number)) w
-  counts-note w = rw en (marked-counts (codeAt rule K label (r .number)) w)
+  counts-note : (w : ℕ) → countedBy κ note w ≡ countedBy κ (codeAt rule K label (r .number)) w
+  counts-note w = rw en (marked-counts κ (codeAt rule K label (r .number)) w)
 
   -- Of the last vertex's k-mer.
   module _ (some : 0 < u) (last : keyAt keys (u - 1) ≡ r .key) (lk : u ≤ length keys / 2) (lc : u ≤ length counts) where
@@ -45,25 +46,25 @@ module _ (rule : Rule) (K : ℕ) (label ks : List ℕ) (rs : List Row) (r : Row)
         ∙ sym (has-snoc y rs r ∙ or-absorbs (hasKey y rs) (eqb (r .key) y)
         (λ q. sym (g .same y) ∙ ap (stored kk) (sym (at ∙ eqb-true (r .key) y q)) ∙ at-stored K kk (g .fits) (u - 1) end-lt))
 
-    same-tallies : {w : ℕ} → w ≡ countedBy note (getD counts (u - 1) 0) → (i : ℕ) → i < u
-        → getD (set counts (u - 1) w) i 0 ≡ tallyRows rule K label (getD kk i 0) (rs ++ (r ∷ [])) 0
+    same-tallies : {w : ℕ} → w ≡ countedBy κ note (getD counts (u - 1) 0) → (i : ℕ) → i < u
+        → getD (set counts (u - 1) w) i 0 ≡ tallyRows κ rule K label (getD kk i 0) (rs ++ (r ∷ [])) 0
     same-tallies {w} ew i b =
         ⊎-elim
         (λ s.
         let z : i ≡ u - 1 = eqb-true i (u - 1) s in
         rw z
         (getD-set-same counts (u - 1) w 0 (omega arith) ∙ ew ∙ counts-note (getD counts (u - 1) 0)
-        ∙ ap (countedBy (codeAt rule K label (r .number))) (g .tallied (u - 1) (omega arith))
-        ∙ sym (row-counted rule K label (getD kk (u - 1) 0) rs r 0 (sym at))))
+        ∙ ap (countedBy κ (codeAt rule K label (r .number))) (g .tallied (u - 1) (omega arith))
+        ∙ sym (row-counted κ rule K label (getD kk (u - 1) 0) rs r 0 (sym at))))
         (λ s.
         let n : i ≡ u - 1 → ⊥ = eqb-false i (u - 1) s in
         getD-set-other counts (u - 1) i w 0 n ∙ g .tallied i b
-        ∙ sym (row-passed rule K label (getD kk i 0) rs r 0
+        ∙ sym (row-passed κ rule K label (getD kk i 0) rs r 0
         (λ q. n (key-inj K kk (g .fits) i (u - 1) (omega (arith, g .number)) end-lt (sym q ∙ sym at)))))
         (true-or-false (eqb i (u - 1)))
 
-    pub grouped-same : {w : ℕ} → w ≡ countedBy note (getD counts (u - 1) 0)
-        → Grouped rule K label ks (rs ++ (r ∷ [])) u keys places (set counts (u - 1) w)
+    pub grouped-same : {w : ℕ} → w ≡ countedBy κ note (getD counts (u - 1) 0)
+        → Grouped κ rule K label ks (rs ++ (r ∷ [])) u keys places (set counts (u - 1) w)
     grouped-same ew = record {
       number = g .number;
       fits = g .fits;
@@ -96,22 +97,22 @@ module _ (rule : Rule) (K : ℕ) (label ks : List ℕ) (rs : List Row) (r : Row)
     new : stored kk (r .key) ≡ false
     new = above-new K kk (r .key) (g .fits) above
 
-    new-tallies : {w : ℕ} → w ≡ countedBy note 0 → (i : ℕ) → i < u + 1
-        → getD (set counts u w) i 0 ≡ tallyRows rule K label (getD all i 0) (rs ++ (r ∷ [])) 0
+    new-tallies : {w : ℕ} → w ≡ countedBy κ note 0 → (i : ℕ) → i < u + 1
+        → getD (set counts u w) i 0 ≡ tallyRows κ rule K label (getD all i 0) (rs ++ (r ∷ [])) 0
     new-tallies {w} ew =
-        set-more counts (λ j. tallyRows rule K label (getD all j 0) (rs ++ (r ∷ [])) 0) u w lc
+        set-more counts (λ j. tallyRows κ rule K label (getD all j 0) (rs ++ (r ∷ [])) 0) u w lc
         (λ i b.
         g .tallied i b
         ∙ sym (rw (kept-key i b)
-        (row-passed rule K label (getD kk i 0) rs r 0
+        (row-passed κ rule K label (getD kk i 0) rs r 0
         (λ q. never (stored kk (getD kk i 0)) (at-stored K kk (g .fits) i (omega (arith, g .number))) (rw q at new)))))
         (ew ∙ counts-note 0
         ∙ sym (rw new-key
-        (row-counted rule K label (r .key) rs r 0 refl
-        ∙ ap (countedBy (codeAt rule K label (r .number))) (tally-none rule K label (r .key) rs 0 (sym (g .same (r .key)) ∙ new)))))
+        (row-counted κ rule K label (r .key) rs r 0 refl
+        ∙ ap (countedBy κ (codeAt rule K label (r .number))) (tally-none κ rule K label (r .key) rs 0 (sym (g .same (r .key)) ∙ new)))))
 
-    pub grouped-new : {p w : ℕ} → p ≡ rank ks (r .key) → w ≡ countedBy note 0
-        → Grouped rule K label ks (rs ++ (r ∷ [])) (u + 1) (putKey keys u (r .key)) (set places u p) (set counts u w)
+    pub grouped-new : {p w : ℕ} → p ≡ rank ks (r .key) → w ≡ countedBy κ note 0
+        → Grouped κ rule K label ks (rs ++ (r ∷ [])) (u + 1) (putKey keys u (r .key)) (set places u p) (set counts u w)
     grouped-new {p} ep ew = record {
       number = rw (all-is, length-append) (omega (arith, g .number));
       fits = rw all-is (above-fit K kk (r .key) (g .fits) above below canonical);

@@ -9,7 +9,8 @@ use Rattle.dna.specs.Answer.{Answer, gives, refuses}
 use Rattle.kmer.specs.Kmer.{okK, canon, isCanon}
 use Rattle.kmer.specs.Says.{valueOf}
 use Rattle.kmer.proofs.Windows.{Bases}
-use Rattle.graph.specs.Table.{keysOf, fit, fitFrom, rank}
+use Rattle.state.specs.Counted.{Kind}
+use Rattle.graph.specs.Table.{keysOf, fit, fitFor, fitFrom, rank}
 use Rattle.graph.specs.Sightings.{Rule, sameCanonical, reversed, window, windows}
 use Rattle.graph.specs.Adding.{Edges, Added}
 use Rattle.graph.specs.Several.{Several}
@@ -78,8 +79,8 @@ pub record Given (K : ℕ) (label : List ℕ) : Type 0 where
   pub bases : Bases label
 
 -- A K in its range, and slices that hold a fit table of n vertices.
-abbrev pub Ready : ℕ → ℕ → List ℕ → List ℕ → Type 0
-Ready K n keys counts = (okK K ≡ true) × (fit K n keys counts ≡ true)
+abbrev pub Ready : Kind → ℕ → ℕ → List ℕ → List ℕ → Type 0
+Ready κ K n keys counts = (okK K ≡ true) × (fitFor κ K n keys counts ≡ true)
 
 -- Such a label, and slices that hold a fit table of n vertices to which it is to be added.
 pub record Addable (K : ℕ) (label : List ℕ) (n : ℕ) (keys counts : List ℕ) : Type 0 where

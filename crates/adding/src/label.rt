@@ -4,7 +4,7 @@ ghost use mathlib.Core.List.{[]};
 ghost use Prim.Native.Nat.{_≤_};
 ghost use lib.ListN.{length};
 ghost use Rattle.dna.specs.Letters.{firstBad};
-ghost use Rattle.state.specs.Counted.{fourBits};
+ghost use Rattle.state.specs.Says.{kindOf};
 ghost use Rattle.graph.specs.Table.{keysOf};
 ghost use Rattle.graph.specs.Sightings.{windows};
 ghost use Rattle.graph.specs.Adding.{addLabel, addBases};
@@ -15,6 +15,7 @@ use super::Bad;
 use super::Mode;
 use super::counting;
 use super::gathering;
+use state::EdgeKind;
 use table::FitAnswer;
 use table::JoinAnswer;
 
@@ -35,6 +36,7 @@ fn first_bad(s: &[u8]) -> Bad
 // The new k-mers of a label made vertices by themselves, sorted and counted, and how many they are; of each window what is noted
 // and the place of its k-mer.
 fn make_vertices(
+    kind: EdgeKind,
     mode: Mode,
     k: usize,
     label: &[u8],
@@ -48,11 +50,12 @@ fn make_vertices(
     new_counts: &mut [u32],
 ) -> usize
     requires { ⌜ Spare k (now label) n (now keys) (now notes) (now places) (now «new_keys») (now offsets) × (windows k (now label) ≤ length (now «new_places»)) × (windows k (now label) ≤ length (now «new_counts»)) ⌝ }
-    ensures { λ r. ⌜ Looked (ruleOf mode) k (now (label .entry)) (keysOf n (now (keys .entry))) (windows k (now (label .entry))) (now (notes .exit)) (now (places .exit)) × Grouped (ruleOf mode) k (now (label .entry)) (keysOf n (now (keys .entry))) (sortedNew k (now (label .entry)) (keysOf n (now (keys .entry)))) r (now («new_keys» .exit)) (now («new_places» .exit)) (now («new_counts» .exit)) ⌝ }
+    ensures { λ r. ⌜ Looked (ruleOf mode) k (now (label .entry)) (keysOf n (now (keys .entry))) (windows k (now (label .entry))) (now (notes .exit)) (now (places .exit)) × Grouped (kindOf kind) (ruleOf mode) k (now (label .entry)) (keysOf n (now (keys .entry))) (sortedNew k (now (label .entry)) (keysOf n (now (keys .entry)))) r (now («new_keys» .exit)) (now («new_places» .exit)) (now («new_counts» .exit)) ⌝ }
 {
     let rows = gathering::gather(mode, k, label, n, keys, notes, places, new_keys, offsets);
     let _sorted = keysort::sort_rows(k, new_keys, offsets, rows);
     counting::group(
+        kind,
         rows,
         notes,
         places,
@@ -76,6 +79,7 @@ fn joined_answer(edges: usize, done: JoinAnswer) -> AddAnswer
 // A label of bases: if its new vertices have room, the windows of the others are counted where they stand, and the new ones are
 // put in all at once.
 fn add_with(
+    kind: EdgeKind,
     mode: Mode,
     k: usize,
     n: usize,
@@ -90,10 +94,11 @@ fn add_with(
     new_counts: &mut [u32],
 ) -> AddAnswer
     requires { ⌜ Roomy k (now label) n (now keys) (now counts) (now notes) (now places) (now offsets) (now «new_keys») (now «new_places») (now «new_counts») ⌝ }
-    ensures { λ r. ⌜ Adds r (now (keys .exit)) (now (counts .exit)) (addBases fourBits (ruleOf mode) k n (now (keys .entry)) (now (counts .entry)) (now (label .entry)) []) ⌝ }
+    ensures { λ r. ⌜ Adds r (now (keys .exit)) (now (counts .exit)) (addBases (kindOf kind) (ruleOf mode) k n (now (keys .entry)) (now (counts .entry)) (now (label .entry)) []) ⌝ }
 {
     let edges = label.len() - k;
     let new = make_vertices(
+        kind,
         mode,
         k,
         label,
@@ -109,13 +114,14 @@ fn add_with(
     if table::capacity(keys, counts) < n + new {
         return AddAnswer::Full;
     }
-    counting::raise_known(edges + 1, notes, places, counts);
+    counting::raise_known(kind, edges + 1, notes, places, counts);
     let done = table::join(n, keys, counts, new, new_places, new_keys, new_counts);
     joined_answer(edges, done)
 }
 
 // At most 512 windows: room for more would take longer to clear than to use.
 fn add_short(
+    kind: EdgeKind,
     mode: Mode,
     k: usize,
     n: usize,
@@ -124,7 +130,7 @@ fn add_short(
     label: &[u8],
 ) -> AddAnswer
     requires { ⌜ Addable k (now label) n (now keys) (now counts) × (windows k (now label) ≤ 512) ⌝ }
-    ensures { λ r. ⌜ Adds r (now (keys .exit)) (now (counts .exit)) (addBases fourBits (ruleOf mode) k n (now (keys .entry)) (now (counts .entry)) (now (label .entry)) []) ⌝ }
+    ensures { λ r. ⌜ Adds r (now (keys .exit)) (now (counts .exit)) (addBases (kindOf kind) (ruleOf mode) k n (now (keys .entry)) (now (counts .entry)) (now (label .entry)) []) ⌝ }
 {
     let mut notes = [0u8; 512];
     let mut places = [0u32; 512];
@@ -133,6 +139,7 @@ fn add_short(
     let mut new_places = [0u32; 512];
     let mut new_counts = [0u32; 512];
     add_with(
+        kind,
         mode,
         k,
         n,
@@ -149,6 +156,7 @@ fn add_short(
 }
 
 fn add_long(
+    kind: EdgeKind,
     mode: Mode,
     k: usize,
     n: usize,
@@ -157,7 +165,7 @@ fn add_long(
     label: &[u8],
 ) -> AddAnswer
     requires { ⌜ Addable k (now label) n (now keys) (now counts) ⌝ }
-    ensures { λ r. ⌜ Adds r (now (keys .exit)) (now (counts .exit)) (addBases fourBits (ruleOf mode) k n (now (keys .entry)) (now (counts .entry)) (now (label .entry)) []) ⌝ }
+    ensures { λ r. ⌜ Adds r (now (keys .exit)) (now (counts .exit)) (addBases (kindOf kind) (ruleOf mode) k n (now (keys .entry)) (now (counts .entry)) (now (label .entry)) []) ⌝ }
 {
     let mut notes = [0u8; 4096];
     let mut places = [0u32; 4096];
@@ -166,6 +174,7 @@ fn add_long(
     let mut new_places = [0u32; 4096];
     let mut new_counts = [0u32; 4096];
     add_with(
+        kind,
         mode,
         k,
         n,
@@ -182,6 +191,7 @@ fn add_long(
 }
 
 fn add_bases(
+    kind: EdgeKind,
     mode: Mode,
     k: usize,
     n: usize,
@@ -190,16 +200,17 @@ fn add_bases(
     label: &[u8],
 ) -> AddAnswer
     requires { ⌜ Addable k (now label) n (now keys) (now counts) ⌝ }
-    ensures { λ r. ⌜ Adds r (now (keys .exit)) (now (counts .exit)) (addBases fourBits (ruleOf mode) k n (now (keys .entry)) (now (counts .entry)) (now (label .entry)) []) ⌝ }
+    ensures { λ r. ⌜ Adds r (now (keys .exit)) (now (counts .exit)) (addBases (kindOf kind) (ruleOf mode) k n (now (keys .entry)) (now (counts .entry)) (now (label .entry)) []) ⌝ }
 {
     if label.len() - k < 512 {
-        return add_short(mode, k, n, keys, counts, label);
+        return add_short(kind, mode, k, n, keys, counts, label);
     }
-    add_long(mode, k, n, keys, counts, label)
+    add_long(kind, mode, k, n, keys, counts, label)
 }
 
 // The label tested whole, then added, to a table that is known to be fit: refusal 4, a label shorter than K, 3, 6.
 pub(crate) fn add_to_fit(
+    kind: EdgeKind,
     mode: Mode,
     k: usize,
     n: usize,
@@ -207,8 +218,8 @@ pub(crate) fn add_to_fit(
     counts: &mut [u32],
     label: &[u8],
 ) -> AddAnswer
-    requires { ⌜ Ready k n (now keys) (now counts) ⌝ }
-    ensures { λ r. ⌜ Adds r (now (keys .exit)) (now (counts .exit)) (addLabel fourBits (ruleOf mode) k n (now (keys .entry)) (now (counts .entry)) (now (label .entry))) ⌝ }
+    requires { ⌜ Ready (kindOf kind) k n (now keys) (now counts) ⌝ }
+    ensures { λ r. ⌜ Adds r (now (keys .exit)) (now (counts .exit)) (addLabel (kindOf kind) (ruleOf mode) k n (now (keys .entry)) (now (counts .entry)) (now (label .entry))) ⌝ }
 {
     if 4096 < label.len() {
         return AddAnswer::TooLong(label.len());
@@ -221,12 +232,13 @@ pub(crate) fn add_to_fit(
     }
     match first_bad(label) {
         Bad::At { place, byte } => AddAnswer::InvalidBase { place, byte },
-        Bad::Nowhere => add_bases(mode, k, n, keys, counts, label),
+        Bad::Nowhere => add_bases(kind, mode, k, n, keys, counts, label),
     }
 }
 
 // Refusals 1 and 5 before those of the label.
 pub fn add_label(
+    kind: EdgeKind,
     mode: Mode,
     k: usize,
     n: usize,
@@ -234,11 +246,11 @@ pub fn add_label(
     counts: &mut [u32],
     label: &[u8],
 ) -> AddAnswer
-    ensures { λ r. ⌜ Adds r (now (keys .exit)) (now (counts .exit)) (addLabel fourBits (ruleOf mode) k n (now (keys .entry)) (now (counts .entry)) (now (label .entry))) ⌝ }
+    ensures { λ r. ⌜ Adds r (now (keys .exit)) (now (counts .exit)) (addLabel (kindOf kind) (ruleOf mode) k n (now (keys .entry)) (now (counts .entry)) (now (label .entry))) ⌝ }
 {
-    match table::fit(k, n, keys, counts) {
+    match table::fit(kind, k, n, keys, counts) {
         FitAnswer::UnsupportedK(k) => AddAnswer::UnsupportedK(k),
         FitAnswer::Unfit => AddAnswer::Unfit,
-        FitAnswer::Fit => add_to_fit(mode, k, n, keys, counts, label),
+        FitAnswer::Fit => add_to_fit(kind, mode, k, n, keys, counts, label),
     }
 }

@@ -1,7 +1,7 @@
 // Many labels added by one call: the table is tested for the first of them alone.
 ghost use mathlib.Core.Path.{_≡_};
 ghost use mathlib.Core.Bool.{true};
-ghost use Rattle.state.specs.Counted.{fourBits};
+ghost use Rattle.state.specs.Says.{kindOf};
 ghost use Rattle.graph.specs.Adding.{addLabel};
 ghost use Rattle.graph.specs.Entries.{within, listed};
 ghost use Rattle.graph.specs.Several.{untried, addEach, addLabels};
@@ -10,10 +10,12 @@ use super::AddAnswer;
 use super::LabelsAnswer;
 use super::Mode;
 use super::label;
+use state::EdgeKind;
 
 // A label added to a table that is known to be fit, or not known yet.
 fn add_next(
     is_fit: bool,
+    kind: EdgeKind,
     mode: Mode,
     k: usize,
     n: usize,
@@ -21,17 +23,18 @@ fn add_next(
     counts: &mut [u32],
     label: &[u8],
 ) -> AddAnswer
-    requires { ⌜ («is_fit» ≡ true → Ready k n (now keys) (now counts)) ⌝ }
-    ensures { λ r. ⌜ Adds r (now (keys .exit)) (now (counts .exit)) (addLabel fourBits (ruleOf mode) k n (now (keys .entry)) (now (counts .entry)) (now (label .entry))) ⌝ }
+    requires { ⌜ («is_fit» ≡ true → Ready (kindOf kind) k n (now keys) (now counts)) ⌝ }
+    ensures { λ r. ⌜ Adds r (now (keys .exit)) (now (counts .exit)) (addLabel (kindOf kind) (ruleOf mode) k n (now (keys .entry)) (now (counts .entry)) (now (label .entry))) ⌝ }
 {
     if is_fit {
-        return label::add_to_fit(mode, k, n, keys, counts, label);
+        return label::add_to_fit(kind, mode, k, n, keys, counts, label);
     }
-    label::add_label(mode, k, n, keys, counts, label)
+    label::add_label(kind, mode, k, n, keys, counts, label)
 }
 
 // The labels of an index that lies within its text. A label that was added leaves a fit table.
 fn add_each(
+    kind: EdgeKind,
     mode: Mode,
     k: usize,
     n: usize,
@@ -43,7 +46,7 @@ fn add_each(
     count: usize,
 ) -> LabelsAnswer
     requires { ⌜ within (now text) count (now starts) (now lengths) ≡ true ⌝ }
-    ensures { λ r. ⌜ AddsLabels n r (now (keys .exit)) (now (counts .exit)) (addEach fourBits (ruleOf mode) k (untried n (now (keys .entry)) (now (counts .entry))) (listed count (now (text .entry)) (now (starts .entry)) (now (lengths .entry)))) ⌝ }
+    ensures { λ r. ⌜ AddsLabels n r (now (keys .exit)) (now (counts .exit)) (addEach (kindOf kind) (ruleOf mode) k (untried n (now (keys .entry)) (now (counts .entry))) (listed count (now (text .entry)) (now (starts .entry)) (now (lengths .entry)))) ⌝ }
 {
     let mut edges = 0;
     let mut stored = n;
@@ -51,7 +54,16 @@ fn add_each(
     while i < count {
         let start = starts[i] as usize;
         let end = start + lengths[i] as usize;
-        let answer = add_next(0 < i, mode, k, stored, keys, counts, &text[start..end]);
+        let answer = add_next(
+            0 < i,
+            kind,
+            mode,
+            k,
+            stored,
+            keys,
+            counts,
+            &text[start..end],
+        );
         match answer {
             AddAnswer::Added {
                 edges: e,
@@ -79,6 +91,7 @@ fn add_each(
 
 // The labels of an index's first entries, in order, until one is refused.
 pub fn add_labels(
+    kind: EdgeKind,
     mode: Mode,
     k: usize,
     n: usize,
@@ -89,10 +102,10 @@ pub fn add_labels(
     lengths: &[u32],
     count: usize,
 ) -> LabelsAnswer
-    ensures { λ r. ⌜ AddsLabels n r (now (keys .exit)) (now (counts .exit)) (addLabels fourBits (ruleOf mode) k n (now (keys .entry)) (now (counts .entry)) (now (text .entry)) (now (starts .entry)) (now (lengths .entry)) count) ⌝ }
+    ensures { λ r. ⌜ AddsLabels n r (now (keys .exit)) (now (counts .exit)) (addLabels (kindOf kind) (ruleOf mode) k n (now (keys .entry)) (now (counts .entry)) (now (text .entry)) (now (starts .entry)) (now (lengths .entry)) count) ⌝ }
 {
     if !fasta::lie_within(text, starts, lengths, count) {
         return LabelsAnswer::OutOfText;
     }
-    add_each(mode, k, n, keys, counts, text, starts, lengths, count)
+    add_each(kind, mode, k, n, keys, counts, text, starts, lengths, count)
 }

@@ -1,8 +1,10 @@
-// Adds labels to tables, in each mode. Prints what each call answers and then every cell of the lent slices, those past the table
-// too. The file `stdout` beside this is written by oracle/adding_test.py, from the rules of document 01 and of Q-3 alone.
+// Adds labels to tables of each kind, in each mode. Prints what each call answers and then every cell of the lent slices, those past
+// the table too. The file `stdout` beside this is written by oracle/adding_test.py, from the rules of document 01 and of Q-1 and Q-3
+// alone.
 use adding::AddAnswer;
 use adding::Mode;
 use libc::STDOUT_FILENO;
+use state::EdgeKind;
 
 // What stands in a cell that nothing was stored in.
 const FREE_KEY: u64 = 0xeeeeeeeeeeeeeeee;
@@ -64,6 +66,7 @@ fn show_answer(answer: AddAnswer) {
 }
 
 fn add(
+    kind: EdgeKind,
     mode: Mode,
     k: usize,
     n: usize,
@@ -74,7 +77,7 @@ fn add(
     text(b"K");
     number(k);
     name(label);
-    let answer = adding::add_label(mode, k, n, keys, counts, label);
+    let answer = adding::add_label(kind, mode, k, n, keys, counts, label);
     show_answer(answer);
     stored_after(answer, n)
 }
@@ -111,80 +114,99 @@ fn show(keys: &[u64], counts: &[u32]) {
 }
 
 // Three labels added to a table with room for twelve vertices.
-fn three(mode: Mode, k: usize, first: &[u8], second: &[u8], third: &[u8]) {
+fn three(kind: EdgeKind, mode: Mode, k: usize, first: &[u8], second: &[u8], third: &[u8]) {
     let mut keys = [FREE_KEY; 24];
     let mut counts = [FREE_COUNT; 12];
-    let a = add(mode, k, 0, &mut keys, &mut counts, first);
-    let b = add(mode, k, a, &mut keys, &mut counts, second);
-    add(mode, k, b, &mut keys, &mut counts, third);
+    let a = add(kind, mode, k, 0, &mut keys, &mut counts, first);
+    let b = add(kind, mode, k, a, &mut keys, &mut counts, second);
+    add(kind, mode, k, b, &mut keys, &mut counts, third);
     show(&keys, &counts);
 }
 
 // Two labels added where the keys have room for two vertices, with a word left over, and the counts for three.
-fn few(mode: Mode, k: usize, first: &[u8], second: &[u8]) {
+fn few(kind: EdgeKind, mode: Mode, k: usize, first: &[u8], second: &[u8]) {
     let mut keys = [FREE_KEY; 5];
     let mut counts = [FREE_COUNT; 3];
-    let a = add(mode, k, 0, &mut keys, &mut counts, first);
-    add(mode, k, a, &mut keys, &mut counts, second);
+    let a = add(kind, mode, k, 0, &mut keys, &mut counts, first);
+    add(kind, mode, k, a, &mut keys, &mut counts, second);
     show(&keys, &counts);
 }
 
-// One label added many times.
-fn often(mode: Mode, k: usize, label: &[u8], times: usize) {
+// One label added many times: counts reach their top, and a bit stays.
+fn often(kind: EdgeKind, mode: Mode, k: usize, label: &[u8], times: usize) {
     let mut keys = [FREE_KEY; 8];
     let mut counts = [FREE_COUNT; 4];
     let mut n = 0;
     let mut i = 0;
     while i < times {
-        n = add(mode, k, n, &mut keys, &mut counts, label);
+        n = add(kind, mode, k, n, &mut keys, &mut counts, label);
         i += 1;
     }
     show(&keys, &counts);
 }
 
-// A label added to a table made by hand, which may be unfit.
-fn by_hand(mode: Mode, k: usize, n: usize, first: u64, second: u64, label: &[u8]) {
+// A label added to a table of two vertices made by hand, their keys and their words, which may be unfit.
+fn by_words(
+    kind: EdgeKind,
+    mode: Mode,
+    k: usize,
+    n: usize,
+    first: u64,
+    second: u64,
+    first_word: u32,
+    second_word: u32,
+    label: &[u8],
+) {
     let mut keys = [first, 0, second, 0, FREE_KEY, FREE_KEY];
-    let mut counts = [1, 2, FREE_COUNT];
-    add(mode, k, n, &mut keys, &mut counts, label);
+    let mut counts = [first_word, second_word, FREE_COUNT];
+    add(kind, mode, k, n, &mut keys, &mut counts, label);
     show(&keys, &counts);
 }
 
+// The same with words that are fit for the kind.
+fn by_hand(kind: EdgeKind, mode: Mode, k: usize, n: usize, first: u64, second: u64, label: &[u8]) {
+    match kind {
+        EdgeKind::Counted => by_words(kind, mode, k, n, first, second, 1, 2, label),
+        EdgeKind::Presence => by_words(kind, mode, k, n, first, second, 0x8, 0x410, label),
+    }
+}
+
 // One label, and then two empty ones.
-fn one(mode: Mode, k: usize, label: &[u8]) {
-    three(mode, k, label, b"", b"");
+fn one(kind: EdgeKind, mode: Mode, k: usize, label: &[u8]) {
+    three(kind, mode, k, label, b"", b"");
 }
 
 // Document 01's examples.
-fn examples(mode: Mode) {
-    one(mode, 3, b"ACCCC");
-    one(mode, 3, b"GGGGT");
-    often(mode, 3, b"ACGG", 16);
-    one(mode, 3, b"ACCN");
-    one(mode, 3, b"AN");
-    one(mode, 1, b"AT");
+fn examples(kind: EdgeKind, mode: Mode) {
+    one(kind, mode, 3, b"ACCCC");
+    one(kind, mode, 3, b"GGGGT");
+    often(kind, mode, 3, b"ACGG", 16);
+    one(kind, mode, 3, b"ACCN");
+    one(kind, mode, 3, b"AN");
+    one(kind, mode, 1, b"AT");
 }
 
-fn no_ks(mode: Mode) {
-    three(mode, 0, b"ACGT", b"", b"N");
-    three(mode, 64, b"ACGT", b"", b"N");
+fn no_ks(kind: EdgeKind, mode: Mode) {
+    three(kind, mode, 0, b"ACGT", b"", b"N");
+    three(kind, mode, 64, b"ACGT", b"", b"N");
 }
 
-fn ones_and_twos(mode: Mode) {
-    three(mode, 1, b"ACGTTGCA", b"NA", b"acgu");
-    three(mode, 2, b"CAT", b"ATG", b"AAAA");
-    three(mode, 2, b"ATATAT", b"CGCG", b"GC");
+fn ones_and_twos(kind: EdgeKind, mode: Mode) {
+    three(kind, mode, 1, b"ACGTTGCA", b"NA", b"acgu");
+    three(kind, mode, 2, b"CAT", b"ATG", b"AAAA");
+    three(kind, mode, 2, b"ATATAT", b"CGCG", b"GC");
 }
 
-fn threes_and_fours(mode: Mode) {
-    three(mode, 3, b"ATCATC", b"GATGAT", b"ATATATA");
-    three(mode, 3, b"CAAAA", b"TTTTG", b"UuTtacGg");
-    three(mode, 3, b"ACGTACGTAAGGCC", b"TTTAGATTACA", b"ACG");
-    three(mode, 4, b"ACGTACGT", b"AACCGGTTR", b"CCCCC");
+fn threes_and_fours(kind: EdgeKind, mode: Mode) {
+    three(kind, mode, 3, b"ATCATC", b"GATGAT", b"ATATATA");
+    three(kind, mode, 3, b"CAAAA", b"TTTTG", b"UuTtacGg");
+    three(kind, mode, 3, b"ACGTACGTAAGGCC", b"TTTAGATTACA", b"ACG");
+    three(kind, mode, 4, b"ACGTACGT", b"AACCGGTTR", b"CCCCC");
 }
 
-fn one_word(mode: Mode) {
+fn one_word(kind: EdgeKind, mode: Mode) {
     three(
+        kind,
         mode,
         31,
         b"ACGTTGCAACGTACCAGTTGACCATGACCATGAC",
@@ -192,6 +214,7 @@ fn one_word(mode: Mode) {
         b"TTTTTTTTTTTTTTTTTTTTTTTTTTTTTTTTTT",
     );
     three(
+        kind,
         mode,
         32,
         b"ACGTTGCAACGTACCAGTTGACCATGACCATGACA",
@@ -200,8 +223,9 @@ fn one_word(mode: Mode) {
     );
 }
 
-fn two_words(mode: Mode) {
+fn two_words(kind: EdgeKind, mode: Mode) {
     three(
+        kind,
         mode,
         33,
         b"ACGTTGCAACGTACCAGTTGACCATGACCATGACAG",
@@ -209,6 +233,7 @@ fn two_words(mode: Mode) {
         b"CTGTCATGGTCATGGTCAACTGGTACGTTGCAACGT",
     );
     three(
+        kind,
         mode,
         63,
         b"ACGTTGCAACGTACCAGTTGACCATGACCATGACAGACGTTGCAACGTACCAGTTGACCATGACC",
@@ -217,57 +242,107 @@ fn two_words(mode: Mode) {
     );
 }
 
-fn little_room(mode: Mode) {
-    few(mode, 2, b"ACC", b"ACCG");
-    few(mode, 3, b"AACTT", b"AAC");
-    few(mode, 3, b"ACGG", b"TTT");
+fn little_room(kind: EdgeKind, mode: Mode) {
+    few(kind, mode, 2, b"ACC", b"ACCG");
+    few(kind, mode, 3, b"AACTT", b"AAC");
+    few(kind, mode, 3, b"ACGG", b"TTT");
 }
 
-fn fit_tables(mode: Mode) {
-    by_hand(mode, 3, 0, 5, 3, b"ACG");
-    by_hand(mode, 3, 1, 5, 3, b"ACG");
-    by_hand(mode, 3, 2, 3, 5, b"AAT");
-    by_hand(mode, 3, 2, 3, 5, b"ACC");
+fn fit_tables(kind: EdgeKind, mode: Mode) {
+    by_hand(kind, mode, 3, 0, 5, 3, b"ACG");
+    by_hand(kind, mode, 3, 1, 5, 3, b"ACG");
+    by_hand(kind, mode, 3, 2, 3, 5, b"AAT");
+    by_hand(kind, mode, 3, 2, 3, 5, b"ACC");
 }
 
-fn unfit_tables(mode: Mode) {
-    by_hand(mode, 3, 2, 5, 3, b"ACG");
-    by_hand(mode, 3, 2, 5, 5, b"ACG");
-    by_hand(mode, 3, 1, 63, 0, b"ACG");
-    by_hand(mode, 3, 1, 64, 0, b"ACG");
-    by_hand(mode, 3, 4, 3, 5, b"ACG");
+fn unfit_tables(kind: EdgeKind, mode: Mode) {
+    by_hand(kind, mode, 3, 2, 5, 3, b"ACG");
+    by_hand(kind, mode, 3, 2, 5, 5, b"ACG");
+    by_hand(kind, mode, 3, 1, 63, 0, b"ACG");
+    by_hand(kind, mode, 3, 1, 64, 0, b"ACG");
+    by_hand(kind, mode, 3, 4, 3, 5, b"ACG");
 }
 
-fn other_tables(mode: Mode) {
-    by_hand(mode, 0, 2, 5, 3, b"ACG");
-    by_hand(mode, 3, 2, 5, 3, b"");
-    by_hand(mode, 3, 2, 3, 5, b"N");
+fn other_tables(kind: EdgeKind, mode: Mode) {
+    by_hand(kind, mode, 0, 2, 5, 3, b"ACG");
+    by_hand(kind, mode, 3, 2, 5, 3, b"");
+    by_hand(kind, mode, 3, 2, 3, 5, b"N");
 }
 
-fn long(mode: Mode) {
+fn long(kind: EdgeKind, mode: Mode) {
     let longest = [b'A'; 4096];
     let longer = [b'N'; 4097];
-    three(mode, 5, &longest, b"AAAAA", &longer);
-    by_hand(mode, 3, 2, 5, 3, &longer);
+    three(kind, mode, 5, &longest, b"AAAAA", &longer);
+    by_hand(kind, mode, 3, 2, 5, 3, &longer);
 }
 
-fn all(mode: Mode) {
-    examples(mode);
-    no_ks(mode);
-    ones_and_twos(mode);
-    threes_and_fours(mode);
-    one_word(mode);
-    two_words(mode);
-    little_room(mode);
-    fit_tables(mode);
-    unfit_tables(mode);
-    other_tables(mode);
-    long(mode);
+fn all(kind: EdgeKind, mode: Mode) {
+    examples(kind, mode);
+    no_ks(kind, mode);
+    ones_and_twos(kind, mode);
+    threes_and_fours(kind, mode);
+    one_word(kind, mode);
+    two_words(kind, mode);
+    little_room(kind, mode);
+    fit_tables(kind, mode);
+    unfit_tables(kind, mode);
+    other_tables(kind, mode);
+    long(kind, mode);
+}
+
+// A label added to AAT and ACC with these presence bits.
+fn bits(mode: Mode, k: usize, n: usize, aat: u32, acc: u32, label: &[u8]) {
+    by_words(EdgeKind::Presence, mode, k, n, 3, 5, aat, acc, label);
+}
+
+fn full_words(mode: Mode) {
+    bits(mode, 3, 2, 0x7f8, 0x7f8, b"AATT");
+    bits(mode, 3, 2, 0x7f8, 0x7f8, b"ACCG");
+    bits(mode, 3, 2, 0x7f8, 0, b"CGGT");
+}
+
+// A stray bit makes the table unfit.
+fn stray_words(mode: Mode) {
+    bits(mode, 3, 2, 0x9, 0x8, b"ACG");
+    bits(mode, 3, 2, 0xa, 0x8, b"ACG");
+    bits(mode, 3, 2, 0xc, 0x8, b"ACG");
+    bits(mode, 3, 2, 0x808, 0x8, b"ACG");
+    bits(mode, 3, 2, 0x80000008, 0x8, b"ACG");
+    bits(mode, 3, 2, 0xfffff80f, 0x8, b"ACG");
+    bits(mode, 3, 2, 0x8, 0x409, b"ACC");
+    bits(mode, 3, 2, 0x8, 0xc08, b"");
+}
+
+// Only a wrong K is said before it.
+fn stray_and_more(mode: Mode) {
+    let longer = [b'N'; 4097];
+    bits(mode, 0, 2, 0x8, 0x409, b"ACG");
+    bits(mode, 3, 2, 0x8, 0x409, b"ACN");
+    bits(mode, 3, 2, 0x8, 0x409, &longer);
+}
+
+// Behind the first n words nobody reads it.
+fn stray_behind(mode: Mode) {
+    bits(mode, 3, 1, 0x8, 0x409, b"AATT");
+    bits(mode, 3, 1, 0x8, 0xffffffff, b"ACGG");
+    bits(mode, 3, 0, 0x9, 0x800, b"ACC");
+}
+
+fn present(mode: Mode) {
+    all(EdgeKind::Presence, mode);
+    full_words(mode);
+    stray_words(mode);
+    stray_and_more(mode);
+    stray_behind(mode);
 }
 
 fn main() {
     text(b"mode same canonical\n");
-    all(Mode::SameCanonical);
+    all(EdgeKind::Counted, Mode::SameCanonical);
     text(b"mode reversed\n");
-    all(Mode::Reversed);
+    all(EdgeKind::Counted, Mode::Reversed);
+    text(b"presence bits, mode same canonical\n");
+    present(Mode::SameCanonical);
+    text(b"presence bits, mode reversed\n");
+    present(Mode::Reversed);
 }

@@ -2,19 +2,20 @@
 // the refusal, into the first cells of a lent slice.
 ghost use mathlib.Core.Path.{_≡_};
 ghost use mathlib.Core.List.{[], _∷_};
-ghost use Rattle.state.specs.Counted.{fourBits};
+ghost use Rattle.state.specs.Says.{kindOf};
 ghost use Rattle.graph.specs.Adding.{addLabel};
 ghost use Rattle.graph.specs.Several.{addLabels};
 ghost use Rattle.graph.specs.Contraction.{contract};
 ghost use Rattle.graph.specs.Fasta.{fasta};
 ghost use Rattle.adding.specs.Says.{addAnswer, ruleOf};
 ghost use Rattle.contraction.specs.Says.{contractAnswer};
-ghost use Rattle.capi.specs.Says.{modeOf, noted, ofEdges, ofTotals, Tells, AddsLabel, AddsSeveral, ContractsTable, WritesFasta};
+ghost use Rattle.capi.specs.Says.{edgeKindOf, modeOf, noted, ofEdges, ofTotals, Tells, AddsLabel, AddsSeveral, ContractsTable, WritesFasta};
 use adding::AddAnswer;
 use adding::LabelsAnswer;
 use adding::Mode;
 use contraction::ContractAnswer;
 use fasta::FastaAnswer;
+use state::EdgeKind;
 
 // One figure.
 fn note(a: u64, figures: &mut [u64])
@@ -78,7 +79,18 @@ fn tell_contracted(answer: ContractAnswer, figures: &mut [u64]) -> u32
         ContractAnswer::FewMarks => 7,
         ContractAnswer::MissingVertex => 8,
         ContractAnswer::NoRoom => 9,
+        ContractAnswer::WrongCutoff => 15,
     }
+}
+
+// What the words of a table keep of edges, by a number: 0 four-bit counts, any other presence bits.
+fn kind_of(kind: u32) -> EdgeKind
+    ensures { λ r. ⌜ r ≡ edgeKindOf kind ⌝ }
+{
+    if kind == 0 {
+        return EdgeKind::Counted;
+    }
+    EdgeKind::Presence
 }
 
 // The mode that a number names: 0 the Rust's, any other the one that counts a step from a k-mer to itself on both its sides.
@@ -94,6 +106,7 @@ fn mode_of(number: u32) -> Mode
 // `add_label`: figures are the edges and the number stored afterwards.
 #[no_mangle]
 pub extern "C" fn lash_add_label(
+    kind: u32,
     mode: u32,
     k: usize,
     n: usize,
@@ -102,11 +115,12 @@ pub extern "C" fn lash_add_label(
     label: &[u8],
     figures: &mut [u64],
 ) -> u32
-    ensures { λ r. ⌜ AddsLabel r (now (keys .exit)) (now (counts .exit)) (now (figures .entry)) (now (figures .exit)) (addLabel fourBits (ruleOf (modeOf mode)) k n (now (keys .entry)) (now (counts .entry)) (now (label .entry))) ⌝ }
+    ensures { λ r. ⌜ AddsLabel r (now (keys .exit)) (now (counts .exit)) (now (figures .entry)) (now (figures .exit)) (addLabel (kindOf (edgeKindOf kind)) (ruleOf (modeOf mode)) k n (now (keys .entry)) (now (counts .entry)) (now (label .entry))) ⌝ }
 {
+    let words = kind_of(kind);
     let chosen = mode_of(mode);
     tell_added(
-        adding::add_label(chosen, k, n, keys, counts, label),
+        adding::add_label(words, chosen, k, n, keys, counts, label),
         figures,
     )
 }
@@ -114,6 +128,7 @@ pub extern "C" fn lash_add_label(
 // `add_labels`: totals are the labels added and the number stored after them, figures those of the last label that was tried.
 #[no_mangle]
 pub extern "C" fn lash_add_labels(
+    kind: u32,
     mode: u32,
     k: usize,
     n: usize,
@@ -126,10 +141,22 @@ pub extern "C" fn lash_add_labels(
     totals: &mut [u64],
     figures: &mut [u64],
 ) -> u32
-    ensures { λ r. ⌜ AddsSeveral r (now (keys .exit)) (now (counts .exit)) (now (totals .entry)) (now (totals .exit)) (now (figures .entry)) (now (figures .exit)) (addLabels fourBits (ruleOf (modeOf mode)) k n (now (keys .entry)) (now (counts .entry)) (now (text .entry)) (now (starts .entry)) (now (lengths .entry)) count) ⌝ }
+    ensures { λ r. ⌜ AddsSeveral r (now (keys .exit)) (now (counts .exit)) (now (totals .entry)) (now (totals .exit)) (now (figures .entry)) (now (figures .exit)) (addLabels (kindOf (edgeKindOf kind)) (ruleOf (modeOf mode)) k n (now (keys .entry)) (now (counts .entry)) (now (text .entry)) (now (starts .entry)) (now (lengths .entry)) count) ⌝ }
 {
+    let words = kind_of(kind);
     let chosen = mode_of(mode);
-    match adding::add_labels(chosen, k, n, keys, counts, text, starts, lengths, count) {
+    match adding::add_labels(
+        words,
+        chosen,
+        k,
+        n,
+        keys,
+        counts,
+        text,
+        starts,
+        lengths,
+        count,
+    ) {
         LabelsAnswer::Tried {
             labels,
             stored,
@@ -148,6 +175,7 @@ pub extern "C" fn lash_add_labels(
 // `contract`: figures are the number of labels and their bases.
 #[no_mangle]
 pub extern "C" fn lash_contract(
+    kind: u32,
     k: usize,
     cutoff: u32,
     n: usize,
@@ -159,10 +187,22 @@ pub extern "C" fn lash_contract(
     marks: &mut [u8],
     figures: &mut [u64],
 ) -> u32
-    ensures { λ r. ⌜ ContractsTable r (now (labels .exit)) (now (starts .exit)) (now (lengths .exit)) (now (marks .exit)) (now (figures .entry)) (now (figures .exit)) (contract fourBits k cutoff n (now (keys .entry)) (now (counts .entry)) (now (labels .entry)) (now (starts .entry)) (now (lengths .entry)) (now (marks .entry))) ⌝ }
+    ensures { λ r. ⌜ ContractsTable r (now (labels .exit)) (now (starts .exit)) (now (lengths .exit)) (now (marks .exit)) (now (figures .entry)) (now (figures .exit)) (contract (kindOf (edgeKindOf kind)) k cutoff n (now (keys .entry)) (now (counts .entry)) (now (labels .entry)) (now (starts .entry)) (now (lengths .entry)) (now (marks .entry))) ⌝ }
 {
+    let words = kind_of(kind);
     tell_contracted(
-        contraction::contract(k, cutoff, n, keys, counts, labels, starts, lengths, marks),
+        contraction::contract(
+            words,
+            k,
+            cutoff,
+            n,
+            keys,
+            counts,
+            labels,
+            starts,
+            lengths,
+            marks,
+        ),
         figures,
     )
 }

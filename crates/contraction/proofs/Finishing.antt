@@ -10,7 +10,7 @@ use borrow.Author.Tests.{ltb-false}
 use Rattle.lemmas.proofs.Tests.{or-first, or-second}
 use Rattle.dna.specs.Text.{over}
 use Rattle.dna.specs.Answer.{gives}
-use Rattle.state.specs.Counted.{fourBits}
+use Rattle.state.specs.Counted.{Kind}
 use Rattle.graph.specs.Table.{keysOf, tableOf}
 use Rattle.graph.specs.Labels.{Run, run}
 use Rattle.graph.specs.Contraction.{entries, sorted, endToEnd, endsIn, written, finish}
@@ -26,14 +26,14 @@ use Rattle.contraction.proofs.Still.{ready-still}
 use Rattle.contraction.proofs.Trailing.{run-same, trails-over}
 
 -- The marks are those that the table's words give, and all walks were followed over them.
-module _ (K cutoff : ℕ) (keys counts labels starts lengths ms₀ : List ℕ) (t : FitTable K keys counts ms₀) {ms : List ℕ}
-    (d : ms ≡ over (map (markOf fourBits cutoff) (take (length ms₀) counts)) ms₀) {number bases : ℕ} {missing : Bool} {after : List ℕ}
+module _ (κ : Kind) (K cutoff : ℕ) (keys counts labels starts lengths ms₀ : List ℕ) (t : FitTable K keys counts ms₀) {ms : List ℕ}
+    (d : ms ≡ over (map (markOf κ cutoff) (take (length ms₀) counts)) ms₀) {number bases : ℕ} {missing : Bool} {after : List ℕ}
     (s : Surveys K keys ms (length ms) number bases missing after) where
   abbrev all : Run
-  all = run K (keysOf (length ms₀) keys) (endsIn fourBits cutoff (tableOf (length ms₀) keys counts)) (length ms₀)
+  all = run K (keysOf (length ms₀) keys) (endsIn κ cutoff (tableOf (length ms₀) keys counts)) (length ms₀)
 
   same : runIn K keys ms (length ms) ≡ all
-  same = run-is K cutoff keys counts ms₀ t d
+  same = run-is κ K cutoff keys counts ms₀ t d
 
   missed-is : all .missed ≡ missing
   missed-is = sym (s .missed ∙ ap (λ (r : Run). r .missed) same)
@@ -58,7 +58,7 @@ module _ (K cutoff : ℕ) (keys counts labels starts lengths ms₀ : List ℕ) (
       ∙ sym (over-all (replicate (length ms₀) 0) ms₀ (length-replicate {A = ℕ} (length ms₀) 0))
 
   pub missing-vertex : missing ≡ true → {marks : List ℕ} → marks ≡ replicate (length after) 0 → length after ≡ length ms₀
-      → Contracts answers.MissingVertex labels starts lengths marks (finishIn K cutoff (length ms₀) keys counts labels starts lengths ms₀)
+      → Contracts answers.MissingVertex labels starts lengths marks (finishIn κ K cutoff (length ms₀) keys counts labels starts lengths ms₀)
   unfolding finish
   missing-vertex h e l =
       rw (missed-is, h)
@@ -67,7 +67,7 @@ module _ (K cutoff : ℕ) (keys counts labels starts lengths ms₀ : List ℕ) (
   module _ (h : missing ≡ false) where
     pub no-room : {short : Bool} → short ≡ lacking → short ≡ true → {marks : List ℕ} → marks ≡ replicate (length after) 0
         → length after ≡ length ms₀
-        → Contracts answers.NoRoom labels starts lengths marks (finishIn K cutoff (length ms₀) keys counts labels starts lengths ms₀)
+        → Contracts answers.NoRoom labels starts lengths marks (finishIn κ K cutoff (length ms₀) keys counts labels starts lengths ms₀)
     unfolding finish
     no-room q k e l =
         rw (missed-is, h, lacking-is, ← q, k)
@@ -93,7 +93,7 @@ module _ (K cutoff : ℕ) (keys counts labels starts lengths ms₀ : List ℕ) (
       pub writable : (slice : List ℕ) → 131072 ≤ length slice → {trail : List ℕ} → trail ≡ over (trailIn K keys ms (length ms)) slice
           → Ready K keys after × Trails K keys after trail × Roomy K keys after (length labels) (length starts) (length lengths)
       writable slice w e =
-          let r = ready K cutoff keys counts ms₀ t d in (
+          let r = ready κ K cutoff keys counts ms₀ t d in (
             ready-still r (s .ends-kept),
             trails-over r (s .ends-kept) slice (omega (arith, r .few)) e,
             record { bases-fit = rw run-after (room .bases-fit); starts-fit = rw run-after (room .starts-fit); lengths-fit = rw run-after (room .lengths-fit) },
@@ -105,7 +105,7 @@ module _ (K cutoff : ℕ) (keys counts labels starts lengths ms₀ : List ℕ) (
           labels labels′ starts starts′ lengths lengths′
           → length marks ≡ length ms₀
           → Contracts (answers.Contracted count bases) labels′ starts′ lengths′ marks
-          (finishIn K cutoff (length ms₀) keys counts labels starts lengths ms₀)
+          (finishIn κ K cutoff (length ms₀) keys counts labels starts lengths ms₀)
       unfolding finish written
       contracted {marks = marks} w₀ l =
           let w = rw (run-after ∙ same) at w₀ in

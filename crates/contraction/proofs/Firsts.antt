@@ -7,7 +7,7 @@ use native.Mathlib.Omega.{arith}
 use lib.Dec.{ltb}
 use lib.ListN.{length, take, drop, replicate, length-replicate}
 use lib.Seq.{length-take-le}
-use Rattle.state.specs.Counted.{fourBits}
+use Rattle.state.specs.Counted.{Kind}
 use Rattle.graph.specs.Table.{keysOf, tableOf}
 use Rattle.graph.specs.Labels.{Run, run}
 use Rattle.graph.specs.Contraction.{Contracted, endToEnd, endsIn, written, finish}
@@ -29,10 +29,10 @@ arms : (P : Contracted → Contracted → Type 0) (t : Bool) {a b c d : Contract
 arms P true p q = p
 arms P false p q = q
 
-module _ (K cutoff n : ℕ) (keys counts labels starts lengths marks : List ℕ) (h : n ≤ length marks) where
+module _ (κ : Kind) (K cutoff n : ℕ) (keys counts labels starts lengths marks : List ℕ) (h : n ≤ length marks) where
   finish-wider : (r : Run) → length (r .marks) ≤ n
-      → Wider (drop n marks) (finish fourBits K cutoff n keys counts labels starts lengths (take n marks) r)
-      (finish fourBits K cutoff n keys counts labels starts lengths marks r)
+      → Wider (drop n marks) (finish κ K cutoff n keys counts labels starts lengths (take n marks) r)
+      (finish κ K cutoff n keys counts labels starts lengths marks r)
   unfolding finish written
   finish-wider r l =
       let zeros = over-first (replicate n 0) marks n (omega (arith, length-replicate {A = ℕ} n 0)) h in
@@ -46,14 +46,14 @@ module _ (K cutoff n : ℕ) (keys counts labels starts lengths marks : List ℕ)
 
   pub first-marks : FitTable K keys counts (take n marks) → {z : ContractAnswer} {labels′ starts′ lengths′ marks′ : List ℕ}
       → Contracts z labels′ starts′ lengths′ marks′
-      (finishIn K cutoff (length (take n marks)) keys counts labels starts lengths (take n marks))
-      → Contracts z labels′ starts′ lengths′ (marks′ ++ drop n marks) (finishIn K cutoff n keys counts labels starts lengths marks)
+      (finishIn κ K cutoff (length (take n marks)) keys counts labels starts lengths (take n marks))
+      → Contracts z labels′ starts′ lengths′ (marks′ ++ drop n marks) (finishIn κ K cutoff n keys counts labels starts lengths marks)
   first-marks t c₀ =
       let e : length (take n marks) ≡ n = length-take-le n marks h in
       let k : n ≤ length (keysOf n keys) = omega (arith, t .room, keys-length n keys) in
       let c = rw e at c₀ in
-      let w = finish-wider (run K (keysOf n keys) (endsIn fourBits cutoff (tableOf n keys counts)) n)
-      (omega (arith, run-toured K (keysOf n keys) (endsIn fourBits cutoff (tableOf n keys counts)) n k .long, keys-length n keys)) in
+      let w = finish-wider (run K (keysOf n keys) (endsIn κ cutoff (tableOf n keys counts)) n)
+      (omega (arith, run-toured K (keysOf n keys) (endsIn κ cutoff (tableOf n keys counts)) n k .long, keys-length n keys)) in
       record {
         answer = c .answer ∙ w .answer;
         labels-after = c .labels-after ∙ w .labels;

@@ -1,6 +1,6 @@
--- How contraction ends before a walk is followed: the refusals 1, 5, 7, and what the rest may rely on. Assumes nothing.
+-- How contraction ends before a walk is followed: the refusals 1, 5, 15, 7, and what the rest may rely on. Assumes nothing.
 use mathlib.Core.Path.{_≡_, refl, ap, _∙_}
-use mathlib.Core.Bool.{true}
+use mathlib.Core.Bool.{true, false}
 use mathlib.Core.List.{List}
 use Prim.Native.Nat.{ℕ, _≤_, _<_}
 use native.Mathlib.Omega.{arith}
@@ -10,10 +10,10 @@ use lib.Seq.{length-take-le}
 use borrow.Author.Tests.{lt-ltb, le-ltb}
 use Rattle.lemmas.proofs.Tests.{both}
 use Rattle.kmer.specs.Kmer.{okK}
-use Rattle.state.specs.Counted.{fourBits}
-use Rattle.graph.specs.Table.{keysOf, capacity, fitFrom, fit}
+use Rattle.state.specs.Counted.{Kind, answersFor}
+use Rattle.graph.specs.Table.{keysOf, capacity, fitFrom, fit, fitFor}
 use Rattle.graph.specs.Contraction.{Contracted, contract}
-use Rattle.graph.proofs.Accepted.{fit-room}
+use Rattle.graph.proofs.Accepted.{fit-for-both, fit-room}
 use Rattle.table.specs.Calls.{fitAnswer, fitCall}
 use Rattle.table.specs.declared.FitAnswer.{FitAnswer}
 use Rattle.table.specs.declared.FitAnswer.the-variants.{Fit, Unfit, UnsupportedK}
@@ -28,49 +28,57 @@ stays : {r : ContractAnswer} {labels starts lengths marks : List ℕ}
     (record { answer = contractAnswer r; labels = labels; starts = starts; lengths = lengths; marks = marks })
 stays = record { answer = refl; labels-after = refl; starts-after = refl; lengths-after = refl; marks-after = refl }
 
-abbrev whole : ℕ → ℕ → ℕ → List ℕ → List ℕ → List ℕ → List ℕ → List ℕ → List ℕ → Contracted
-whole K cutoff n keys counts labels starts lengths marks = contract fourBits K cutoff n keys counts labels starts lengths marks
+abbrev whole : Kind → ℕ → ℕ → ℕ → List ℕ → List ℕ → List ℕ → List ℕ → List ℕ → List ℕ → Contracted
+whole κ K cutoff n keys counts labels starts lengths marks = contract κ K cutoff n keys counts labels starts lengths marks
 
-module _ (K cutoff n : ℕ) (keys counts labels starts lengths marks : List ℕ) {r : FitAnswer}
-    (t : fitAnswer r ≡ fitCall K n keys counts) where
+module _ (κ : Kind) (K cutoff n : ℕ) (keys counts labels starts lengths marks : List ℕ) {r : FitAnswer}
+    (t : fitAnswer r ≡ fitCall κ K n keys counts) where
   pub unsupported : {k : ℕ} → r ≡ UnsupportedK k
-      → Contracts (answers.UnsupportedK k) labels starts lengths marks (whole K cutoff n keys counts labels starts lengths marks)
+      → Contracts (answers.UnsupportedK k) labels starts lengths marks (whole κ K cutoff n keys counts labels starts lengths marks)
   unfolding contract
   unsupported {k} e =
-      let q = told-unsupported K n keys counts t e in
+      let q = told-unsupported κ K n keys counts t e in
       rw (q .0, q .1) stays
 
-  pub unfit : r ≡ Unfit → Contracts answers.Unfit labels starts lengths marks (whole K cutoff n keys counts labels starts lengths marks)
+  pub unfit : r ≡ Unfit → Contracts answers.Unfit labels starts lengths marks (whole κ K cutoff n keys counts labels starts lengths marks)
   unfolding contract
   unfit e =
-      let q = told-unfit K n keys counts t e in
+      let q = told-unfit κ K n keys counts t e in
       rw (q .0, q .1) stays
 
   module _ (e : r ≡ Fit) where
-    ok : (okK K ≡ true) × (fit K n keys counts ≡ true)
-    ok = told-fit K n keys counts t e
+    ok : (okK K ≡ true) × (fitFor κ K n keys counts ≡ true)
+    ok = told-fit κ K n keys counts t e
 
-    pub few-marks : length marks < n
-        → Contracts answers.FewMarks labels starts lengths marks (whole K cutoff n keys counts labels starts lengths marks)
+    keys-ok : fit K n keys counts ≡ true
+    keys-ok = fit-for-both κ K n keys counts (ok .1) .0
+
+    pub wrong-cutoff : answersFor κ cutoff ≡ false
+        → Contracts answers.WrongCutoff labels starts lengths marks (whole κ K cutoff n keys counts labels starts lengths marks)
     unfolding contract
-    few-marks h = rw (ok .0, ok .1, lt-ltb (length marks) n h) stays
+    wrong-cutoff a = rw (ok .0, ok .1, a) stays
+
+    pub few-marks : answersFor κ cutoff ≡ true → length marks < n
+        → Contracts answers.FewMarks labels starts lengths marks (whole κ K cutoff n keys counts labels starts lengths marks)
+    unfolding contract
+    few-marks a h = rw (ok .0, ok .1, a, lt-ltb (length marks) n h) stays
 
     module _ (h : n ≤ length marks) where
       pub fit-first : FitTable K keys counts (take n marks)
       fit-first =
           let l : length (take n marks) ≡ n = length-take-le n marks h in
-          let m = fit-room K n keys counts (ok .1) in
+          let m = fit-room K n keys counts keys-ok in
           record {
             ok = ok .0;
             room = omega arith;
             counted = omega arith;
             few = omega arith;
             fits = ap (λ (z : ℕ). fitFrom K 0 (keysOf z keys)) l
-                ∙ both (leb n (capacity keys counts)) (fitFrom K 0 (keysOf n keys)) (ok .1) .1;
+                ∙ both (leb n (capacity keys counts)) (fitFrom K 0 (keysOf n keys)) keys-ok .1;
           }
 
-      pub goes-on : {z : ContractAnswer} {labels′ starts′ lengths′ marks′ : List ℕ}
-          → Contracts z labels′ starts′ lengths′ marks′ (finishIn K cutoff n keys counts labels starts lengths marks)
-          → Contracts z labels′ starts′ lengths′ marks′ (whole K cutoff n keys counts labels starts lengths marks)
+      pub goes-on : answersFor κ cutoff ≡ true → {z : ContractAnswer} {labels′ starts′ lengths′ marks′ : List ℕ}
+          → Contracts z labels′ starts′ lengths′ marks′ (finishIn κ K cutoff n keys counts labels starts lengths marks)
+          → Contracts z labels′ starts′ lengths′ marks′ (whole κ K cutoff n keys counts labels starts lengths marks)
       unfolding contract
-      goes-on c = rw (ok .0, ok .1, le-ltb (length marks) n h) c
+      goes-on a c = rw (ok .0, ok .1, a, le-ltb (length marks) n h) c

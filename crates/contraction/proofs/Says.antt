@@ -16,7 +16,7 @@ caseOf (gives t) = answers.Contracted (t .labels) (t .bases)
 caseOf (refuses r values) =
     let u = answers.Unfit in
     getD
-    (u ∷ answers.UnsupportedK (getD values 0 0) ∷ u ∷ u ∷ u ∷ u ∷ u ∷ answers.FewMarks ∷ answers.MissingVertex ∷ answers.NoRoom ∷ [])
+    (u ∷ answers.UnsupportedK (getD values 0 0) ∷ u ∷ u ∷ u ∷ u ∷ u ∷ answers.FewMarks ∷ answers.MissingVertex ∷ answers.NoRoom ∷ u ∷ u ∷ u ∷ u ∷ u ∷ answers.WrongCutoff ∷ [])
     r u
 
 case-back : (a : ContractAnswer) → caseOf (contractAnswer a) ≡ a
@@ -26,6 +26,7 @@ case-back answers.Unfit = refl
 case-back answers.FewMarks = refl
 case-back answers.MissingVertex = refl
 case-back answers.NoRoom = refl
+case-back answers.WrongCutoff = refl
 
 pub contract-inj : (a b : ContractAnswer) → contractAnswer a ≡ contractAnswer b → a ≡ b
 contract-inj a b e = sym (case-back a) ∙ ap caseOf e ∙ case-back b

@@ -11,7 +11,7 @@ use Rattle.dna.specs.Letters.{letterOf}
 use Rattle.kmer.specs.Kmer.{okK, rc}
 use Rattle.kmer.specs.Says.{valueOf}
 use Rattle.sorting.specs.Index.{Spot, sortedSpots}
-use Rattle.state.specs.Counted.{fourBits}
+use Rattle.state.specs.Counted.{Kind}
 use Rattle.state.specs.declared.Side.{Side}
 use Rattle.graph.specs.declared.Step.{Step}
 use Rattle.graph.specs.Table.{tableOf, fitFrom}
@@ -32,6 +32,7 @@ abbrev pub contractAnswer : ContractAnswer → Answer Totals
 contractAnswer (contract.Contracted labels bases) = gives (record { labels = labels; bases = bases })
 contractAnswer (contract.UnsupportedK K) = refuses 1 (K ∷ [])
 contractAnswer contract.Unfit = refuses 5 []
+contractAnswer contract.WrongCutoff = refuses 15 []
 contractAnswer contract.FewMarks = refuses 7 []
 contractAnswer contract.MissingVertex = refuses 8 []
 contractAnswer contract.NoRoom = refuses 9 []
@@ -139,7 +140,7 @@ pub record FitTable (K : ℕ) (keys counts ms : List ℕ) : Type 0 where
   pub fits : fitFrom K 0 (keysFor ms keys) ≡ true
 
 -- What is left to do once the table is known to be fit and to have marks.
-abbrev pub finishIn : ℕ → ℕ → ℕ → List ℕ → List ℕ → List ℕ → List ℕ → List ℕ → List ℕ → Contracted
-finishIn K cutoff n keys counts labels starts lengths marks =
+abbrev pub finishIn : Kind → ℕ → ℕ → ℕ → List ℕ → List ℕ → List ℕ → List ℕ → List ℕ → List ℕ → Contracted
+finishIn κ K cutoff n keys counts labels starts lengths marks =
     let t = tableOf n keys counts in
-    finish fourBits K cutoff n keys counts labels starts lengths marks (run K (t .keys) (endsIn fourBits cutoff t) n)
+    finish κ K cutoff n keys counts labels starts lengths marks (run K (t .keys) (endsIn κ cutoff t) n)

@@ -15,6 +15,7 @@ pub enum ContractAnswer {
     Contracted { labels: usize, bases: usize },
     UnsupportedK(usize),
     Unfit,
+    WrongCutoff,
     FewMarks,
     MissingVertex,
     NoRoom,

@@ -4,7 +4,7 @@ ghost use mathlib.Core.Bool.{_||_};
 ghost use Prim.Native.Nat.{_≤_};
 ghost use lib.Dec.{ltb};
 ghost use lib.ListN.{length, take};
-ghost use Rattle.state.specs.Counted.{fourBits};
+ghost use Rattle.state.specs.Says.{kindOf};
 ghost use Rattle.graph.specs.Contraction.{contract as contracted, entries, sorted};
 ghost use Rattle.marks.specs.Marks.{visits};
 ghost use Rattle.contraction.specs.Ready.{Ready, runIn};
@@ -13,6 +13,7 @@ ghost use Rattle.contraction.specs.Trail.{Trails};
 use super::ContractAnswer;
 use super::survey;
 use super::write;
+use state::EdgeKind;
 use table::FitAnswer;
 
 // Whether the labels do not fit the buffer, or their entries do not fit one of the two slices.
@@ -59,6 +60,7 @@ fn write_list(
 // A fit table of as many vertices as there are marks. All walks are followed before the first byte is written: the trail has two
 // bytes for each of at most 65,536 vertices, which is enough.
 fn contract_fit(
+    kind: EdgeKind,
     k: usize,
     cutoff: u32,
     keys: &[u64],
@@ -69,10 +71,10 @@ fn contract_fit(
     marks: &mut [u8],
 ) -> ContractAnswer
     requires { ⌜ FitTable k (now keys) (now counts) (now marks) ⌝ }
-    ensures { λ r. ⌜ Contracts r (now (labels .exit)) (now (starts .exit)) (now (lengths .exit)) (now (marks .exit)) (finishIn k cutoff (length (now (marks .entry))) (now (keys .entry)) (now (counts .entry)) (now (labels .entry)) (now (starts .entry)) (now (lengths .entry)) (now (marks .entry))) ⌝ }
+    ensures { λ r. ⌜ Contracts r (now (labels .exit)) (now (starts .exit)) (now (lengths .exit)) (now (marks .exit)) (finishIn (kindOf kind) k cutoff (length (now (marks .entry))) (now (keys .entry)) (now (counts .entry)) (now (labels .entry)) (now (starts .entry)) (now (lengths .entry)) (now (marks .entry))) ⌝ }
 {
     let mut trail = [0u8; 131072];
-    marks::digest(counts, cutoff, marks);
+    marks::digest(kind, counts, cutoff, marks);
     let all = survey::survey(k, keys, marks, &mut trail);
     if all.missing {
         marks::clear(marks);
@@ -97,6 +99,7 @@ fn contract_fit(
 
 // A fit table of n vertices, for which there are marks.
 fn contract_first(
+    kind: EdgeKind,
     k: usize,
     cutoff: u32,
     n: usize,
@@ -108,9 +111,10 @@ fn contract_first(
     marks: &mut [u8],
 ) -> ContractAnswer
     requires { ⌜ (n ≤ length (now marks)) × FitTable k (now keys) (now counts) (take n (now marks)) ⌝ }
-    ensures { λ r. ⌜ Contracts r (now (labels .exit)) (now (starts .exit)) (now (lengths .exit)) (now (marks .exit)) (finishIn k cutoff n (now (keys .entry)) (now (counts .entry)) (now (labels .entry)) (now (starts .entry)) (now (lengths .entry)) (now (marks .entry))) ⌝ }
+    ensures { λ r. ⌜ Contracts r (now (labels .exit)) (now (starts .exit)) (now (lengths .exit)) (now (marks .exit)) (finishIn (kindOf kind) k cutoff n (now (keys .entry)) (now (counts .entry)) (now (labels .entry)) (now (starts .entry)) (now (lengths .entry)) (now (marks .entry))) ⌝ }
 {
     contract_fit(
+        kind,
         k,
         cutoff,
         keys,
@@ -122,8 +126,9 @@ fn contract_first(
     )
 }
 
-// The unitigs of a table at a cutoff, or the first of the refusals 1, 5, 7, 8, 9 that is due.
+// The unitigs of a table at a cutoff, or the first of the refusals 1, 5, 15, 7, 8, 9 that is due.
 pub fn contract(
+    kind: EdgeKind,
     k: usize,
     cutoff: u32,
     n: usize,
@@ -134,16 +139,30 @@ pub fn contract(
     lengths: &mut [u32],
     marks: &mut [u8],
 ) -> ContractAnswer
-    ensures { λ r. ⌜ Contracts r (now (labels .exit)) (now (starts .exit)) (now (lengths .exit)) (now (marks .exit)) (contracted fourBits k cutoff n (now (keys .entry)) (now (counts .entry)) (now (labels .entry)) (now (starts .entry)) (now (lengths .entry)) (now (marks .entry))) ⌝ }
+    ensures { λ r. ⌜ Contracts r (now (labels .exit)) (now (starts .exit)) (now (lengths .exit)) (now (marks .exit)) (contracted (kindOf kind) k cutoff n (now (keys .entry)) (now (counts .entry)) (now (labels .entry)) (now (starts .entry)) (now (lengths .entry)) (now (marks .entry))) ⌝ }
 {
-    match table::fit(k, n, keys, counts) {
+    match table::fit(kind, k, n, keys, counts) {
         FitAnswer::UnsupportedK(k) => ContractAnswer::UnsupportedK(k),
         FitAnswer::Unfit => ContractAnswer::Unfit,
         FitAnswer::Fit => {
+            if !state::answers_for(kind, cutoff) {
+                return ContractAnswer::WrongCutoff;
+            }
             if marks.len() < n {
                 return ContractAnswer::FewMarks;
             }
-            contract_first(k, cutoff, n, keys, counts, labels, starts, lengths, marks)
+            contract_first(
+                kind,
+                k,
+                cutoff,
+                n,
+                keys,
+                counts,
+                labels,
+                starts,
+                lengths,
+                marks,
+            )
         }
     }
 }

@@ -1,6 +1,7 @@
 pub mod Growing
 pub mod Meets
 pub mod Strands
+pub mod AnyKind
 pub mod Program
 pub mod Every
 pub mod Told

@@ -49,7 +49,7 @@ module _ (K cutoff : ℕ) (labels : List (List ℕ)) {t : Totals} (given : resul
 
   pub list-meets : Demand3 K (keys K labels) (ends K cutoff labels) (OneBase K) (list K cutoff labels (t .labels))
   list-meets =
-      demand3 (lawful-canonical K) (grows sameCanonical K start labels [] (fresh (zeros .keys) (zeros .counts)) .grown) cutoff (zeros .labels) (zeros .starts) (zeros .lengths)
+      demand3 (lawful-canonical K) (grows fourBits sameCanonical K start labels [] (fresh (zeros .keys) (zeros .counts)) .grown) cutoff (zeros .labels) (zeros .starts) (zeros .lengths)
       (zeros .marks) t given
 
   pub list-inside : (let c = result K cutoff labels in within (c .labels) (t .labels) (c .starts) (c .lengths) ≡ true)

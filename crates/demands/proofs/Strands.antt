@@ -6,7 +6,8 @@ use mathlib.Core.List.{List}
 use Prim.Native.Nat.{ℕ, _%_}
 use Rattle.dna.specs.Answer.{gives}
 use Rattle.dna.proofs.Answers.{ungiven}
-use Rattle.state.specs.Counted.{fourBits}
+use Rattle.state.specs.declared.EdgeKind.{EdgeKind}
+use Rattle.state.specs.Says.{kindOf}
 use Rattle.graph.specs.Table.{tableOf}
 use Rattle.graph.specs.Sightings.{reversed}
 use Rattle.graph.specs.Adding.{Edges, Added, storedAfter, addLabel}
@@ -23,7 +24,7 @@ use Rattle.adding.proofs.Says.{adds-one, adds-labels-one}
 use Rattle.contraction.specs.declared.ContractAnswer.{ContractAnswer}
 use Rattle.contraction.specs.Says.{Contracts}
 use Rattle.laws.specs.Strands.{EitherStrand, Turned, Alike, Alike.same, Alike.no-base, AllAlike, AllAlike.all-same, AllAlike.last-no-base}
-use Rattle.laws.proofs.Keys.{grown-fit}
+use Rattle.laws.proofs.Keys.{grown-fit-for}
 use Rattle.laws.proofs.Turned.{alike-given, either-alike, each-alike, grown-turned}
 use Rattle.laws.proofs.Tables.{grown-same, contract-same}
 use Rattle.demands.specs.Calls.{Called, addedBy, storedBy}
@@ -47,18 +48,18 @@ told : (n : ℕ) (r : LabelsAnswer) (s : Several) → labelsSay n r s → (added
 told n (many.Tried m stored last) s h = (h .0, h .1)
 told n many.OutOfText s h = (h .0, h .1)
 
-module _ (K : ℕ) (odd : K % 2 ≡ 1) where
+module _ (kind : EdgeKind) (K : ℕ) (odd : K % 2 ≡ 1) where
   -- ---- two calls over the same table, known by their contracts
 
   module _ (n : ℕ) (keys counts : List ℕ) where
     -- `add_label`, of labels that read as each other on one strand or the other.
     module _ {l m : List ℕ} (t : EitherStrand l m) {r s : AddAnswer} {keys′ counts′ keys″ counts″ : List ℕ}
-        (a : Adds r keys′ counts′ (addLabel fourBits reversed K n keys counts l))
-        (b : Adds s keys″ counts″ (addLabel fourBits reversed K n keys counts m)) where
+        (a : Adds r keys′ counts′ (addLabel (kindOf kind) reversed K n keys counts l))
+        (b : Adds s keys″ counts″ (addLabel (kindOf kind) reversed K n keys counts m)) where
       -- Both slices and the number stored, whatever is answered;
       pub call-strands : (keys″ ≡ keys′) × (counts″ ≡ counts′) × (storedAfter n (addAnswer s) ≡ storedAfter n (addAnswer r))
       call-strands =
-          let h = left-alike n (either-alike fourBits K odd n keys counts t) in (
+          let h = left-alike n (either-alike (kindOf kind) K odd n keys counts t) in (
             b .keys-after ∙ h .0 ∙ sym (a .keys-after),
             b .counts-after ∙ h .1 ∙ sym (a .counts-after),
             ap (storedAfter n) (b .answer) ∙ h .2 ∙ sym (ap (storedAfter n) (a .answer)),
@@ -68,7 +69,7 @@ module _ (K : ℕ) (odd : K % 2 ≡ 1) where
       pub call-answers : {edges stored : ℕ} → r ≡ one.Added edges stored → s ≡ r
       call-answers {edges} {stored} q =
           let e : Edges = record { edges = edges; stored = stored } in
-          let h = alike-given (either-alike fourBits K odd n keys counts t) e (sym (a .answer) ∙ ap addAnswer q) in
+          let h = alike-given (either-alike (kindOf kind) K odd n keys counts t) e (sym (a .answer) ∙ ap addAnswer q) in
           adds-one s r (rw h at b) a .0
 
     -- `add_labels`, over two indices.
@@ -76,17 +77,17 @@ module _ (K : ℕ) (odd : K % 2 ≡ 1) where
         (inside : within text count starts lengths ≡ true) (inside₂ : within text₂ count₂ starts₂ lengths₂ ≡ true)
         (ts : Turned (listed count text starts lengths) (listed count₂ text₂ starts₂ lengths₂))
         {r s : LabelsAnswer} {keys′ counts′ keys″ counts″ : List ℕ}
-        (a : AddsLabels n r keys′ counts′ (addLabels fourBits reversed K n keys counts text starts lengths count))
-        (b : AddsLabels n s keys″ counts″ (addLabels fourBits reversed K n keys counts text₂ starts₂ lengths₂ count₂)) where
+        (a : AddsLabels n r keys′ counts′ (addLabels (kindOf kind) reversed K n keys counts text starts lengths count))
+        (b : AddsLabels n s keys″ counts″ (addLabels (kindOf kind) reversed K n keys counts text₂ starts₂ lengths₂ count₂)) where
       abbrev first : Several
-      first = addLabels fourBits reversed K n keys counts text starts lengths count
+      first = addLabels (kindOf kind) reversed K n keys counts text starts lengths count
 
       abbrev second : Several
-      second = addLabels fourBits reversed K n keys counts text₂ starts₂ lengths₂ count₂
+      second = addLabels (kindOf kind) reversed K n keys counts text₂ starts₂ lengths₂ count₂
 
       labels-alike : AllAlike second first
       unfolding addLabels
-      labels-alike = rw (inside, inside₂) (each-alike fourBits K odd ts all-same)
+      labels-alike = rw (inside, inside₂) (each-alike (kindOf kind) K odd ts all-same)
 
       -- Both slices, how many were added and the number stored, whatever is answered;
       pub calls-strands : (keys″ ≡ keys′) × (counts″ ≡ counts′) × (addedBy s ≡ addedBy r) × (storedBy n s ≡ storedBy n r)
@@ -111,21 +112,21 @@ module _ (K : ℕ) (odd : K % 2 ≡ 1) where
   -- ---- two runs, each from none stored
 
   module _ {ls ms : List (List ℕ)} {n n′ : ℕ} {keys counts keys′ counts′ : List ℕ}
-      (c : Called mode.Reversed K ls n keys counts) (d : Called mode.Reversed K ms n′ keys′ counts′) (ts : Turned ls ms) where
+      (c : Called kind mode.Reversed K ls n keys counts) (d : Called kind mode.Reversed K ms n′ keys′ counts′) (ts : Turned ls ms) where
     -- The number stored and the vertices, in whatever slices they stand.
     pub runs-strands : (n′ ≡ n) × (tableOf n′ keys′ counts′ ≡ tableOf n keys counts)
-    runs-strands = grown-same (grown-turned fourBits K odd (called-grown c) ts) (called-grown d)
+    runs-strands = grown-same (grown-turned (kindOf kind) K odd (called-grown c) ts) (called-grown d)
 
     contract-strands : (cutoff : ℕ) (labels starts lengths marks : List ℕ)
-        → contract fourBits K cutoff n′ keys′ counts′ labels starts lengths marks ≡ contract fourBits K cutoff n keys counts labels starts lengths marks
+        → contract (kindOf kind) K cutoff n′ keys′ counts′ labels starts lengths marks ≡ contract (kindOf kind) K cutoff n keys counts labels starts lengths marks
     contract-strands cutoff labels starts lengths marks =
         let q = runs-strands .0 in
         rw q
-        (contract-same fourBits K cutoff n keys counts keys′ counts′ labels starts lengths marks (grown-fit (called-grown c))
-        (rw q at (grown-fit (called-grown d))) (rw q at (runs-strands .1)))
+        (contract-same (kindOf kind) K cutoff n keys counts keys′ counts′ labels starts lengths marks (grown-fit-for (called-grown c))
+        (rw q at (grown-fit-for (called-grown d))) (rw q at (runs-strands .1)))
 
     -- A call of `contract` over the one is a call over the other: they have one list.
     pub lists-strands : (cutoff : ℕ) (labels starts lengths marks : List ℕ) {r : ContractAnswer} {labels′ starts′ lengths′ marks′ : List ℕ}
-        → Contracts r labels′ starts′ lengths′ marks′ (contract fourBits K cutoff n′ keys′ counts′ labels starts lengths marks)
-        → Contracts r labels′ starts′ lengths′ marks′ (contract fourBits K cutoff n keys counts labels starts lengths marks)
+        → Contracts r labels′ starts′ lengths′ marks′ (contract (kindOf kind) K cutoff n′ keys′ counts′ labels starts lengths marks)
+        → Contracts r labels′ starts′ lengths′ marks′ (contract (kindOf kind) K cutoff n keys counts labels starts lengths marks)
     lists-strands cutoff labels starts lengths marks a = rw (contract-strands cutoff labels starts lengths marks) at a

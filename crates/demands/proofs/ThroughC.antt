@@ -6,7 +6,9 @@ use Prim.Native.Nat.{ℕ, _*_, _≤_}
 use native.Mathlib.Omega.{arith}
 use lib.ListN.{length, getD, take}
 use borrow.Author.Tests.{ne-eqb}
-use Rattle.state.specs.Counted.{fourBits}
+use Rattle.state.specs.declared.EdgeKind.{EdgeKind}
+use Rattle.state.specs.declared.EdgeKind.the-variants as kinds
+use Rattle.state.specs.Says.{kindOf}
 use Rattle.graph.specs.Table.{tableOf, keysOf}
 use Rattle.graph.specs.Adding.{addLabel}
 use Rattle.graph.specs.Entries.{listed}
@@ -22,7 +24,7 @@ use Rattle.adding.specs.Says.{addAnswer, ruleOf, Adds, AddsLabels}
 use Rattle.contraction.specs.declared.ContractAnswer.{ContractAnswer}
 use Rattle.contraction.specs.declared.ContractAnswer.the-variants as all
 use Rattle.contraction.specs.Says.{contractAnswer, Contracts}
-use Rattle.capi.specs.Says.{modeOf, numberOf, figures, noted, ofEdges, ofTotals, AddsLabel, AddsSeveral, ContractsTable}
+use Rattle.capi.specs.Says.{edgeKindOf, modeOf, numberOf, figures, noted, ofEdges, ofTotals, AddsLabel, AddsSeveral, ContractsTable}
 use Rattle.laws.specs.Demand.{Demand3}
 use Rattle.demands.specs.Calls.{excepted, Called, Called.adds, Called.adds-many, onto}
 use Rattle.demands.proofs.Told.{add-told, labels-told, contract-told}
@@ -40,15 +42,19 @@ two-noted a b (x ∷ y ∷ slice) h = (refl, refl)
 pub c-reversed : (mode : ℕ) → (mode ≡ 0 → ⊥) → modeOf mode ≡ modes.Reversed
 c-reversed mode h = rw (ne-eqb mode 0 h)
 
+-- Any number but 0 names presence bits.
+pub c-presence : (kind : ℕ) → (kind ≡ 0 → ⊥) → edgeKindOf kind ≡ kinds.Presence
+c-presence kind h = rw (ne-eqb kind 0 h)
+
 -- ---- `lash_add_label`
 
-module _ (mode K n : ℕ) (keys counts l : List ℕ) {r : ℕ} {keys′ counts′ figures₀ figures′ : List ℕ}
-    (c : AddsLabel r keys′ counts′ figures₀ figures′ (addLabel fourBits (ruleOf (modeOf mode)) K n keys counts l)) where
+module _ (kind mode K n : ℕ) (keys counts l : List ℕ) {r : ℕ} {keys′ counts′ figures₀ figures′ : List ℕ}
+    (c : AddsLabel r keys′ counts′ figures₀ figures′ (addLabel (kindOf (edgeKindOf kind)) (ruleOf (modeOf mode)) K n keys counts l)) where
   -- The call of `add_label` that it is.
-  pub c-adds : (a : AddAnswer) × Adds a keys′ counts′ (addLabel fourBits (ruleOf (modeOf mode)) K n keys counts l)
+  pub c-adds : (a : AddAnswer) × Adds a keys′ counts′ (addLabel (kindOf (edgeKindOf kind)) (ruleOf (modeOf mode)) K n keys counts l)
       × (r ≡ numberOf (addAnswer a)) × (figures′ ≡ noted (figures ofEdges (addAnswer a)) figures₀)
   c-adds =
-      let t = add-told (ruleOf (modeOf mode)) K n keys counts l in (
+      let t = add-told (kindOf (edgeKindOf kind)) (ruleOf (modeOf mode)) K n keys counts l in (
         t .0,
         record { answer = t .1; keys-after = c .keys-after; counts-after = c .counts-after },
         c .number ∙ ap numberOf (sym (t .1)),
@@ -56,12 +62,12 @@ module _ (mode K n : ℕ) (keys counts l : List ℕ) {r : ℕ} {keys′ counts�
       )
 
   -- Where 0 is returned, the label was added and the second figure is the number stored afterwards;
-  pub c-called : {ls : List (List ℕ)} → Called (modeOf mode) K ls n keys counts → r ≡ 0 → 2 ≤ length figures₀
-      → Called (modeOf mode) K (l ∷ ls) (getD figures′ 1 0) keys′ counts′
+  pub c-called : {ls : List (List ℕ)} → Called (edgeKindOf kind) (modeOf mode) K ls n keys counts → r ≡ 0 → 2 ≤ length figures₀
+      → Called (edgeKindOf kind) (modeOf mode) K (l ∷ ls) (getD figures′ 1 0) keys′ counts′
   c-called {ls} g z room = go (c-adds .0) (c-adds .1) (c-adds .2) (c-adds .3)
     where
-      go : (a : AddAnswer) → Adds a keys′ counts′ (addLabel fourBits (ruleOf (modeOf mode)) K n keys counts l) → r ≡ numberOf (addAnswer a)
-          → figures′ ≡ noted (figures ofEdges (addAnswer a)) figures₀ → Called (modeOf mode) K (l ∷ ls) (getD figures′ 1 0) keys′ counts′
+      go : (a : AddAnswer) → Adds a keys′ counts′ (addLabel (kindOf (edgeKindOf kind)) (ruleOf (modeOf mode)) K n keys counts l) → r ≡ numberOf (addAnswer a)
+          → figures′ ≡ noted (figures ofEdges (addAnswer a)) figures₀ → Called (edgeKindOf kind) (modeOf mode) K (l ∷ ls) (getD figures′ 1 0) keys′ counts′
       go (one.Added edges stored) a q f = rw (f, two-noted edges stored figures₀ room .1) (adds g l a refl)
       go (one.UnsupportedK k) a q f = absurd (omega arith)
       go (one.InvalidBase place byte) a q f = absurd (omega arith)
@@ -70,11 +76,11 @@ module _ (mode K n : ℕ) (keys counts l : List ℕ) {r : ℕ} {keys′ counts�
       go one.Full a q f = absurd (omega arith)
 
   -- where another number is, the table is as it was.
-  pub c-refused : {ls : List (List ℕ)} → Called (modeOf mode) K ls n keys counts → (r ≡ 0 → ⊥) → Called (modeOf mode) K ls n keys′ counts′
+  pub c-refused : {ls : List (List ℕ)} → Called (edgeKindOf kind) (modeOf mode) K ls n keys counts → (r ≡ 0 → ⊥) → Called (edgeKindOf kind) (modeOf mode) K ls n keys′ counts′
   c-refused {ls} g z = go (c-adds .0) (c-adds .1) (c-adds .2)
     where
-      go : (a : AddAnswer) → Adds a keys′ counts′ (addLabel fourBits (ruleOf (modeOf mode)) K n keys counts l) → r ≡ numberOf (addAnswer a)
-          → Called (modeOf mode) K ls n keys′ counts′
+      go : (a : AddAnswer) → Adds a keys′ counts′ (addLabel (kindOf (edgeKindOf kind)) (ruleOf (modeOf mode)) K n keys counts l) → r ≡ numberOf (addAnswer a)
+          → Called (edgeKindOf kind) (modeOf mode) K ls n keys′ counts′
       go (one.Added edges stored) a q = absurd (z q)
       go (one.UnsupportedK k) a q = called-refused g l a 1 (k ∷ []) refl
       go (one.InvalidBase place byte) a q = called-refused g l a 3 (place ∷ byte ∷ []) refl
@@ -84,24 +90,24 @@ module _ (mode K n : ℕ) (keys counts l : List ℕ) {r : ℕ} {keys′ counts�
 
 -- ---- `lash_add_labels`
 
-module _ (mode K n : ℕ) (keys counts text starts lengths : List ℕ) (count : ℕ) {r : ℕ} {keys′ counts′ totals₀ totals′ figures₀ figures′ : List ℕ}
-    (c : AddsSeveral r keys′ counts′ totals₀ totals′ figures₀ figures′ (addLabels fourBits (ruleOf (modeOf mode)) K n keys counts text starts lengths count)) where
+module _ (kind mode K n : ℕ) (keys counts text starts lengths : List ℕ) (count : ℕ) {r : ℕ} {keys′ counts′ totals₀ totals′ figures₀ figures′ : List ℕ}
+    (c : AddsSeveral r keys′ counts′ totals₀ totals′ figures₀ figures′ (addLabels (kindOf (edgeKindOf kind)) (ruleOf (modeOf mode)) K n keys counts text starts lengths count)) where
   -- The call of `add_labels` that it is.
-  pub c-adds-labels : (a : LabelsAnswer) × AddsLabels n a keys′ counts′ (addLabels fourBits (ruleOf (modeOf mode)) K n keys counts text starts lengths count)
+  pub c-adds-labels : (a : LabelsAnswer) × AddsLabels n a keys′ counts′ (addLabels (kindOf (edgeKindOf kind)) (ruleOf (modeOf mode)) K n keys counts text starts lengths count)
   c-adds-labels =
-      let t = labels-told (ruleOf (modeOf mode)) K n keys counts text starts lengths count in
+      let t = labels-told (kindOf (edgeKindOf kind)) (ruleOf (modeOf mode)) K n keys counts text starts lengths count in
       (t .0, record { says = t .1; keys-after = c .keys-after; counts-after = c .counts-after })
 
   -- Whatever is returned, the totals are the labels that were added and the number stored after them.
-  pub c-called-many : {ls : List (List ℕ)} → Called (modeOf mode) K ls n keys counts → 2 ≤ length totals₀
-      → Called (modeOf mode) K (onto (take (getD totals′ 0 0) (listed count text starts lengths)) ls) (getD totals′ 1 0) keys′ counts′
+  pub c-called-many : {ls : List (List ℕ)} → Called (edgeKindOf kind) (modeOf mode) K ls n keys counts → 2 ≤ length totals₀
+      → Called (edgeKindOf kind) (modeOf mode) K (onto (take (getD totals′ 0 0) (listed count text starts lengths)) ls) (getD totals′ 1 0) keys′ counts′
   c-called-many {ls} g room = go (c-adds-labels .0) (c-adds-labels .1)
     where
       told : {m stored m′ stored′ : ℕ} → m ≡ m′ → stored ≡ stored′ → noted (m′ ∷ stored′ ∷ []) totals₀ ≡ noted (m ∷ stored ∷ []) totals₀
       told p q = ap₂ (λ (x y : ℕ). noted (x ∷ y ∷ []) totals₀) (sym p) (sym q)
 
-      go : (a : LabelsAnswer) → AddsLabels n a keys′ counts′ (addLabels fourBits (ruleOf (modeOf mode)) K n keys counts text starts lengths count)
-          → Called (modeOf mode) K (onto (take (getD totals′ 0 0) (listed count text starts lengths)) ls) (getD totals′ 1 0) keys′ counts′
+      go : (a : LabelsAnswer) → AddsLabels n a keys′ counts′ (addLabels (kindOf (edgeKindOf kind)) (ruleOf (modeOf mode)) K n keys counts text starts lengths count)
+          → Called (edgeKindOf kind) (modeOf mode) K (onto (take (getD totals′ 0 0) (listed count text starts lengths)) ls) (getD totals′ 1 0) keys′ counts′
       go (many.Tried m stored last) a =
           let t = two-noted m stored totals₀ room in
           rw (c .totals-after ∙ told (a .says .0) (a .says .1), t .0, t .1) (adds-many g text starts lengths count a)
@@ -111,13 +117,13 @@ module _ (mode K n : ℕ) (keys counts text starts lengths : List ℕ) (count : 
 
 -- ---- `lash_contract`
 
-module _ (K cutoff n : ℕ) (keys counts labels starts lengths marks : List ℕ) {r : ℕ} {labels′ starts′ lengths′ marks′ figures₀ figures′ : List ℕ}
-    (c : ContractsTable r labels′ starts′ lengths′ marks′ figures₀ figures′ (contract fourBits K cutoff n keys counts labels starts lengths marks)) where
+module _ (kind K cutoff n : ℕ) (keys counts labels starts lengths marks : List ℕ) {r : ℕ} {labels′ starts′ lengths′ marks′ figures₀ figures′ : List ℕ}
+    (c : ContractsTable r labels′ starts′ lengths′ marks′ figures₀ figures′ (contract (kindOf (edgeKindOf kind)) K cutoff n keys counts labels starts lengths marks)) where
   -- The call of `contract` that it is; `call-always` and all that follows it in Meets.antt speak of that.
-  pub c-contracts : (a : ContractAnswer) × Contracts a labels′ starts′ lengths′ marks′ (contract fourBits K cutoff n keys counts labels starts lengths marks)
+  pub c-contracts : (a : ContractAnswer) × Contracts a labels′ starts′ lengths′ marks′ (contract (kindOf (edgeKindOf kind)) K cutoff n keys counts labels starts lengths marks)
       × (r ≡ numberOf (contractAnswer a)) × (figures′ ≡ noted (figures ofTotals (contractAnswer a)) figures₀)
   c-contracts =
-      let t = contract-told K cutoff n keys counts labels starts lengths marks in (
+      let t = contract-told (kindOf (edgeKindOf kind)) K cutoff n keys counts labels starts lengths marks in (
         t .0,
         record {
           answer = t .1;
@@ -131,18 +137,19 @@ module _ (K cutoff n : ℕ) (keys counts labels starts lengths marks : List ℕ)
       )
 
   -- Where 0 is returned over a table that calls have made, the labels that the index lists, as many as the first figure says, meet demand 3.
-  pub c-meets : {m : Mode} {ls : List (List ℕ)} → Called m K ls n keys counts → r ≡ 0 → 2 ≤ length figures₀
-      → Demand3 K (keysOf n keys) (endsIn fourBits cutoff (tableOf n keys counts)) (excepted m K) (listed (getD figures′ 0 0) labels′ starts′ lengths′)
+  pub c-meets : {m : Mode} {ls : List (List ℕ)} → Called (edgeKindOf kind) m K ls n keys counts → r ≡ 0 → 2 ≤ length figures₀
+      → Demand3 K (keysOf n keys) (endsIn (kindOf (edgeKindOf kind)) cutoff (tableOf n keys counts)) (excepted m K) (listed (getD figures′ 0 0) labels′ starts′ lengths′)
   c-meets {m} {ls} g z room = go (c-contracts .0) (c-contracts .1) (c-contracts .2) (c-contracts .3)
     where
       go : (a : ContractAnswer)
-          → Contracts a labels′ starts′ lengths′ marks′ (contract fourBits K cutoff n keys counts labels starts lengths marks)
+          → Contracts a labels′ starts′ lengths′ marks′ (contract (kindOf (edgeKindOf kind)) K cutoff n keys counts labels starts lengths marks)
           → r ≡ numberOf (contractAnswer a) → figures′ ≡ noted (figures ofTotals (contractAnswer a)) figures₀
-          → Demand3 K (keysOf n keys) (endsIn fourBits cutoff (tableOf n keys counts)) (excepted m K) (listed (getD figures′ 0 0) labels′ starts′ lengths′)
+          → Demand3 K (keysOf n keys) (endsIn (kindOf (edgeKindOf kind)) cutoff (tableOf n keys counts)) (excepted m K) (listed (getD figures′ 0 0) labels′ starts′ lengths′)
       go (all.Contracted number bases) a q f =
-          rw (f, two-noted number bases figures₀ room .0) (call-meets K cutoff n keys counts labels starts lengths marks a refl g)
+          rw (f, two-noted number bases figures₀ room .0) (call-meets (edgeKindOf kind) K cutoff n keys counts labels starts lengths marks a refl g)
       go (all.UnsupportedK k) a q f = absurd (omega arith)
       go all.Unfit a q f = absurd (omega arith)
+      go all.WrongCutoff a q f = absurd (omega arith)
       go all.FewMarks a q f = absurd (omega arith)
       go all.MissingVertex a q f = absurd (omega arith)
       go all.NoRoom a q f = absurd (omega arith)
@@ -152,11 +159,12 @@ module _ (K cutoff n : ℕ) (keys counts labels starts lengths marks : List ℕ)
   c-fits b s l e = go (c-contracts .0) (c-contracts .1) (c-contracts .2)
     where
       go : (a : ContractAnswer)
-          → Contracts a labels′ starts′ lengths′ marks′ (contract fourBits K cutoff n keys counts labels starts lengths marks)
+          → Contracts a labels′ starts′ lengths′ marks′ (contract (kindOf (edgeKindOf kind)) K cutoff n keys counts labels starts lengths marks)
           → r ≡ numberOf (contractAnswer a) → ⊥
       go (all.Contracted number bases) a q = omega arith
       go (all.UnsupportedK k) a q = omega arith
       go all.Unfit a q = omega arith
+      go all.WrongCutoff a q = omega arith
       go all.FewMarks a q = omega arith
       go all.MissingVertex a q = omega arith
-      go all.NoRoom a q = call-fits K cutoff n keys counts labels starts lengths marks a b s l refl
+      go all.NoRoom a q = call-fits (edgeKindOf kind) K cutoff n keys counts labels starts lengths marks a b s l refl

@@ -10,8 +10,8 @@ use Rattle.dna.specs.Letters.{isBase, firstBad}
 use Rattle.dna.specs.Answer.{Answer}
 use Rattle.dna.proofs.Answers.{either}
 use Rattle.kmer.specs.Kmer.{okK}
-use Rattle.state.specs.Counted.{fourBits}
-use Rattle.graph.specs.Table.{tableOf, keysOf, capacity, fit}
+use Rattle.state.specs.Counted.{Kind, answersFor}
+use Rattle.graph.specs.Table.{tableOf, keysOf, capacity, fitFor}
 use Rattle.graph.specs.Sightings.{Rule}
 use Rattle.graph.specs.Adding.{Edges, Added, added, addBases, addLabel}
 use Rattle.graph.specs.Entries.{listed, within}
@@ -41,53 +41,53 @@ unfolding firstBad
 bad-told P none at i [] = none
 bad-told P none at i (b ∷ s) = choose P (isBase b) (λ _. bad-told P none at (suc i) s) (λ _. at i b)
 
-pub add-told : (rule : Rule) (K n : ℕ) (keys counts label : List ℕ) → Told (addLabel fourBits rule K n keys counts label .answer)
+pub add-told : (κ : Kind) (rule : Rule) (K n : ℕ) (keys counts label : List ℕ) → Told (addLabel κ rule K n keys counts label .answer)
 unfolding addLabel addBases
-add-told rule K n keys counts label =
+add-told κ rule K n keys counts label =
     choose ToldIn (not (okK K)) (λ _. (one.UnsupportedK K, refl))
-    (λ _. choose ToldIn (not (fit K n keys counts)) (λ _. (one.Unfit, refl))
+    (λ _. choose ToldIn (not (fitFor κ K n keys counts)) (λ _. (one.Unfit, refl))
     (λ _. choose ToldIn (ltb 4096 (length label)) (λ _. (one.TooLong (length label), refl))
     (λ _. choose ToldIn (ltb (length label) K) (λ _. (one.Added 0 n, refl))
-    (λ _. bad-told (λ (bad : List ℕ). ToldIn (addBases fourBits rule K n keys counts label bad)) bases bad-place 0 label))))
+    (λ _. bad-told (λ (bad : List ℕ). ToldIn (addBases κ rule K n keys counts label bad)) bases bad-place 0 label))))
   where
-    bases : ToldIn (addBases fourBits rule K n keys counts label [])
+    bases : ToldIn (addBases κ rule K n keys counts label [])
     bases =
-        let t = added fourBits rule K label (tableOf n keys counts) in
+        let t = added κ rule K label (tableOf n keys counts) in
         choose ToldIn (ltb (capacity keys counts) (length (t .keys))) (λ _. (one.Full, refl)) (λ _. (one.Added _ _, refl))
 
-    bad-place : (place byte : ℕ) → ToldIn (addBases fourBits rule K n keys counts label (place ∷ byte ∷ []))
+    bad-place : (place byte : ℕ) → ToldIn (addBases κ rule K n keys counts label (place ∷ byte ∷ []))
     bad-place place byte = (one.InvalidBase place byte, refl)
 
 -- ---- many labels
 
-module _ (rule : Rule) (K : ℕ) where
-  each-told : (s : Several) (ls : List (List ℕ)) → Told (s .answer) → Told (addEach fourBits rule K s ls .answer)
+module _ (κ : Kind) (rule : Rule) (K : ℕ) where
+  each-told : (s : Several) (ls : List (List ℕ)) → Told (s .answer) → Told (addEach κ rule K s ls .answer)
   unfolding addEach addNext
   each-told s [] h = h
   each-told s (l ∷ ls) h =
-      let a = addLabel fourBits rule K (s .stored) (s .keys) (s .counts) l in
+      let a = addLabel κ rule K (s .stored) (s .keys) (s .counts) l in
       either (λ (t : Several). Told (t .answer)) (s .answer)
-      (λ _ _. either (λ (t : Several). Told (addEach fourBits rule K t ls .answer)) (a .answer)
+      (λ _ _. either (λ (t : Several). Told (addEach κ rule K t ls .answer)) (a .answer)
       (λ e _. each-told _ ls (one.Added (e .edges) (e .stored), refl))
-      (λ r vs q. each-told _ ls (rw q at (add-told rule K (s .stored) (s .keys) (s .counts) l))))
+      (λ r vs q. each-told _ ls (rw q at (add-told κ rule K (s .stored) (s .keys) (s .counts) l))))
       (λ r vs q. h)
 
   pub labels-told : (n : ℕ) (keys counts text starts lengths : List ℕ) (count : ℕ)
-      → (x : LabelsAnswer) × labelsSay n x (addLabels fourBits rule K n keys counts text starts lengths count)
+      → (x : LabelsAnswer) × labelsSay n x (addLabels κ rule K n keys counts text starts lengths count)
   unfolding addLabels
   labels-told n keys counts text starts lengths count =
-      let s = addEach fourBits rule K (untried n keys counts) (listed count text starts lengths) in
+      let s = addEach κ rule K (untried n keys counts) (listed count text starts lengths) in
       let last = each-told (untried n keys counts) (listed count text starts lengths) (one.Added 0 n, refl) in
       choose (λ (t : Several). (x : LabelsAnswer) × labelsSay n x t) (within text count starts lengths)
       (λ _. (many.Tried (s .labels) (s .stored) (last .0), (refl, refl, last .1))) (λ _. (many.OutOfText, (refl, refl, refl)))
 
 -- ---- contraction
 
-module _ (K cutoff n : ℕ) (keys counts labels starts lengths marks : List ℕ) where
+module _ (κ : Kind) (K cutoff n : ℕ) (keys counts labels starts lengths marks : List ℕ) where
   abbrev ToldAll : Contracted → Type 0
   ToldAll c = (x : ContractAnswer) × (contractAnswer x ≡ c .answer)
 
-  finish-told : (r : Run) → ToldAll (finish fourBits K cutoff n keys counts labels starts lengths marks r)
+  finish-told : (r : Run) → ToldAll (finish κ K cutoff n keys counts labels starts lengths marks r)
   unfolding finish written
   finish-told r =
       choose ToldAll (r .missed) (λ _. (all.MissingVertex, refl))
@@ -95,10 +95,11 @@ module _ (K cutoff n : ℕ) (keys counts labels starts lengths marks : List ℕ)
       || ltb (length lengths) (length (r .labels)))
       (λ _. (all.NoRoom, refl)) (λ _. (all.Contracted _ _, refl)))
 
-  pub contract-told : ToldAll (contract fourBits K cutoff n keys counts labels starts lengths marks)
+  pub contract-told : ToldAll (contract κ K cutoff n keys counts labels starts lengths marks)
   unfolding contract
   contract-told =
       choose ToldAll (not (okK K)) (λ _. (all.UnsupportedK K, refl))
-      (λ _. choose ToldAll (not (fit K n keys counts)) (λ _. (all.Unfit, refl))
+      (λ _. choose ToldAll (not (fitFor κ K n keys counts)) (λ _. (all.Unfit, refl))
+      (λ _. choose ToldAll (not (answersFor κ cutoff)) (λ _. (all.WrongCutoff, refl))
       (λ _. choose ToldAll (ltb (length marks) n) (λ _. (all.FewMarks, refl))
-      (λ _. finish-told (run K (keysOf n keys) (endsIn fourBits cutoff (tableOf n keys counts)) n))))
+      (λ _. finish-told (run K (keysOf n keys) (endsIn κ cutoff (tableOf n keys counts)) n)))))

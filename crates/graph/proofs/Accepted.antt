@@ -16,14 +16,20 @@ use Rattle.dna.specs.Text.{over}
 use Rattle.kmer.specs.Kmer.{okK}
 use Rattle.kmer.proofs.Testing.{no-bad-bases}
 use Rattle.state.specs.Counted.{Kind}
-use Rattle.graph.specs.Table.{Table, tableOf, keysOf, wordsOf, capacity, fit, fitFrom, stored}
+use Rattle.graph.specs.Table.{Table, tableOf, keysOf, wordsOf, capacity, fit, fitFor, wordsFit, fitFrom, stored}
 use Rattle.graph.specs.Sightings.{Rule}
 use Rattle.graph.specs.Adding.{added, Edges, Added, unchanged, changed, addBases, addLabel}
 use Rattle.graph.proofs.Store.{Sound}
 use Rattle.graph.proofs.Keys.{keys-length, words-length, keys-words}
 use Rattle.graph.proofs.Adding.{Readable, added-sound, added-short}
+use Rattle.graph.proofs.Clean.{added-words}
 
 -- ---- the table that two slices hold
+
+-- What is fit for a kind is fit, and so are its words.
+pub fit-for-both : (κ : Kind) (K n : ℕ) (keys counts : List ℕ) → fitFor κ K n keys counts ≡ true
+    → (fit K n keys counts ≡ true) × (wordsFit κ (tableOf n keys counts .counts) ≡ true)
+fit-for-both κ K n keys counts = both (fit K n keys counts) (wordsFit κ (tableOf n keys counts .counts))
 
 module _ (K n : ℕ) (keys counts : List ℕ) (h : fit K n keys counts ≡ true) where
   pub fit-room : n ≤ capacity keys counts
@@ -55,6 +61,7 @@ module _ (κ : Kind) (rule : Rule) (K n : ℕ) (keys counts label : List ℕ) wh
   pub record Accepted (r : Added) (e : Edges) : Type 0 where
     pub ok : okK K ≡ true
     pub fits : fit K n keys counts ≡ true
+    pub words : wordsFit κ (tableOf n keys counts .counts) ≡ true
     pub long : length label ≤ 4096
     pub reads : Readable K label
     pub edges : e .edges ≡ length label - K
@@ -72,7 +79,8 @@ module _ (κ : Kind) (rule : Rule) (K n : ℕ) (keys counts label : List ℕ) wh
   refused : (e : Edges) (x : ℕ) (vs : List ℕ) → Says e (unchanged κ rule K n keys counts label (refuses x vs))
   refused e x vs h = let z : _≡_ {A = ℕ} 0 1 = cc in absurd (omega arith)
 
-  module _ (e : Edges) (ok : okK K ≡ true) (fits : fit K n keys counts ≡ true) (long : length label ≤ 4096) where
+  module _ (e : Edges) (ok : okK K ≡ true) (fits : fit K n keys counts ≡ true) (words : wordsFit κ (tableOf n keys counts .counts) ≡ true)
+      (long : length label ≤ 4096) where
     before : Sound K (tableOf n keys counts)
     before = fit-sound K n keys counts fits
 
@@ -83,6 +91,7 @@ module _ (κ : Kind) (rule : Rule) (K n : ℕ) (keys counts label : List ℕ) wh
         record {
           ok = ok;
           fits = fits;
+          words = words;
           long = long;
           reads = inl s;
           edges = a ∙ omega arith;
@@ -107,6 +116,7 @@ module _ (κ : Kind) (rule : Rule) (K n : ℕ) (keys counts label : List ℕ) wh
         record {
           ok = ok;
           fits = fits;
+          words = words;
           long = long;
           reads = reads;
           edges = a;
@@ -131,25 +141,27 @@ module _ (κ : Kind) (rule : Rule) (K n : ℕ) (keys counts label : List ℕ) wh
   unfolding addLabel
   accepted e =
       choose (Says e) (not (okK K)) (λ _. refused e 1 (K ∷ []))
-      (λ a. choose (Says e) (not (fit K n keys counts)) (λ _. refused e 5 [])
+      (λ a. choose (Says e) (not (fitFor κ K n keys counts)) (λ _. refused e 5 [])
       (λ b. choose (Says e) (ltb 4096 (length label)) (λ _. refused e 4 (length label ∷ []))
       (λ c.
       let ok = not-false (okK K) a in
-      let fits = not-false (fit K n keys counts) b in
+      let f = fit-for-both κ K n keys counts (not-false (fitFor κ K n keys counts) b) in
       let long = ltb-false 4096 (length label) c in
-      choose (Says e) (ltb (length label) K) (λ d. short-says e ok fits long (ltb-true (length label) K d))
-      (λ d. bases-says e ok fits long (firstBad 0 label) refl))))
+      choose (Says e) (ltb (length label) K) (λ d. short-says e ok (f .0) (f .1) long (ltb-true (length label) K d))
+      (λ d. bases-says e ok (f .0) (f .1) long (firstBad 0 label) refl))))
 
   -- The table that such a label leaves is fit.
   pub accepted-fit : (e : Edges) → addLabel κ rule K n keys counts label .answer ≡ gives e
-      → let r = addLabel κ rule K n keys counts label in fit K (e .stored) (r .keys) (r .counts) ≡ true
+      → let r = addLabel κ rule K n keys counts label in fitFor κ K (e .stored) (r .keys) (r .counts) ≡ true
   accepted-fit e h =
       let r = addLabel κ rule K n keys counts label in
       let a = accepted e h in
       let c : e .stored ≤ capacity (r .keys) (r .counts) = rw (a .keys-length, a .counts-length) (a .room) in
       let after : Sound K (tableOf (e .stored) (r .keys) (r .counts)) =
       subst (Sound K) (sym (a .table)) (added-sound κ rule K label (tableOf n keys counts) (a .reads) (fit-sound K n keys counts (a .fits))) in
-      rw (le-leb (e .stored) (capacity (r .keys) (r .counts)) c) (after .fits)
+      let clean : wordsFit κ (tableOf (e .stored) (r .keys) (r .counts) .counts) ≡ true =
+      subst (λ (t : Table). wordsFit κ (t .counts) ≡ true) (sym (a .table)) (added-words κ rule K label (tableOf n keys counts) (a .words)) in
+      rw (le-leb (e .stored) (capacity (r .keys) (r .counts)) c, after .fits) clean
 
   -- A refusal changes neither slice.
   pub record Same (r : Added) : Type 0 where
@@ -174,7 +186,7 @@ module _ (κ : Kind) (rule : Rule) (K n : ℕ) (keys counts label : List ℕ) wh
   unfolding addLabel
   refused-same x vs =
       choose (Keeps x vs) (not (okK K)) (λ _. stays x vs (refuses 1 (K ∷ [])))
-      (λ _. choose (Keeps x vs) (not (fit K n keys counts)) (λ _. stays x vs (refuses 5 []))
+      (λ _. choose (Keeps x vs) (not (fitFor κ K n keys counts)) (λ _. stays x vs (refuses 5 []))
       (λ _. choose (Keeps x vs) (ltb 4096 (length label)) (λ _. stays x vs (refuses 4 (length label ∷ [])))
       (λ _. choose (Keeps x vs) (ltb (length label) K) (λ _. stays x vs (gives (record { edges = 0; stored = n })))
       (λ _. bases-stay x vs (firstBad 0 label)))))

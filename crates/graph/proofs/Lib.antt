@@ -7,6 +7,7 @@ pub mod Sight
 pub mod Alike
 pub mod Keys
 pub mod Adding
+pub mod Clean
 pub mod AnyOrder
 pub mod Accepted
 pub mod Entries

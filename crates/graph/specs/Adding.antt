@@ -9,7 +9,7 @@ use Rattle.dna.specs.Answer.{Answer, gives, refuses}
 use Rattle.dna.specs.Letters.{firstBad}
 use Rattle.kmer.specs.Kmer.{canon, okK}
 use Rattle.state.specs.Counted.{Kind}
-use Rattle.graph.specs.Table.{Table, tableOf, wordsOf, capacity, fit, store, sight}
+use Rattle.graph.specs.Table.{Table, tableOf, wordsOf, capacity, fitFor, store, sight}
 use Rattle.graph.specs.Sightings.{Sighting, Rule, window, windows, sightings}
 
 -- The canonical k-mers of a label's first m windows stored.
@@ -66,7 +66,7 @@ module _ (κ : Kind) (rule : Rule) (K n : ℕ) (keys counts label : List ℕ) wh
   unfoldable pub addLabel : Added
   addLabel =
       cond (not (okK K)) (unchanged (refuses 1 (K ∷ [])))
-      (cond (not (fit K n keys counts)) (unchanged (refuses 5 []))
+      (cond (not (fitFor κ K n keys counts)) (unchanged (refuses 5 []))
       (cond (ltb 4096 (length label)) (unchanged (refuses 4 (length label ∷ [])))
       (cond (ltb (length label) K) (unchanged (gives (record { edges = 0; stored = n })))
       (addBases (firstBad 0 label)))))

@@ -12,7 +12,7 @@ use Rattle.dna.specs.Order.{openOrder}
 use Rattle.kmer.specs.Kmer.{packed, openKmer}
 use Rattle.kmer.specs.Calls.{packCall, reverseCall, openCalls}
 use Rattle.state.specs.declared.Side.the-variants.{Back}
-use Rattle.state.specs.Counted.{fourBits, openCounted}
+use Rattle.state.specs.Counted.{Kind, fourBits, openCounted}
 use Rattle.graph.specs.Table.{keysOf, tableOf, openTable}
 use Rattle.graph.specs.Sightings.{Rule, sameCanonical, openSightings}
 use Rattle.graph.specs.Adding.{Edges, addLabel, storedAfter, openAdding}
@@ -44,11 +44,11 @@ pub record State : Type 0 where
 abbrev pub empty : State
 empty = record { stored = 0; keys = replicate 16 0; counts = replicate 8 0; answers = [] }
 
-abbrev pub addAll : Rule → ℕ → State → List String → State
-addAll rule K t [] = t
-addAll rule K t (l ∷ ls) =
-    let a = addLabel fourBits rule K (t .stored) (t .keys) (t .counts) (bytes l) in
-    addAll rule K
+abbrev pub addAll : Kind → Rule → ℕ → State → List String → State
+addAll κ rule K t [] = t
+addAll κ rule K t (l ∷ ls) =
+    let a = addLabel κ rule K (t .stored) (t .keys) (t .counts) (bytes l) in
+    addAll κ rule K
     (record {
       stored = storedAfter (t .stored) (a .answer);
       keys = a .keys;
@@ -66,23 +66,23 @@ bytesIn (gives n) = n
 bytesIn (refuses r vs) = 0
 
 -- The FASTA text of a table at a cutoff.
-abbrev pub fastaAt : ℕ → State → ℕ → List ℕ
-fastaAt K t cutoff =
-    let c = contract fourBits K cutoff (t .stored) (t .keys) (t .counts) (replicate 40 0) (replicate 8 0) (replicate 8 0) (replicate 8 7) in
+abbrev pub fastaAt : Kind → ℕ → State → ℕ → List ℕ
+fastaAt κ K t cutoff =
+    let c = contract κ K cutoff (t .stored) (t .keys) (t .counts) (replicate 40 0) (replicate 8 0) (replicate 8 0) (replicate 8 7) in
     let f = fasta (c .labels) (c .starts) (c .lengths) (labelsIn (c .answer)) (replicate 60 0) in
     take (bytesIn (f .answer)) (f .slice)
 
 -- Whether the Back walk of the first vertex, made before any other, closes a cycle.
-abbrev pub closesAt : ℕ → State → ℕ → Bool
-closesAt K t cutoff =
+abbrev pub closesAt : Kind → ℕ → State → ℕ → Bool
+closesAt κ K t cutoff =
     let table = tableOf (t .stored) (t .keys) (t .counts) in
-    closed (walk K (table .keys) (endsIn fourBits cutoff table) 0 Back (replicate (t .stored) 0) .last)
+    closed (walk K (table .keys) (endsIn κ cutoff table) 0 Back (replicate (t .stored) 0) .last)
 
-abbrev pub resultBy : Rule → Example → Result
-resultBy rule (grow K labels cutoffs) =
-    let t = addAll rule K empty labels in
-    grown (t .answers) (keysOf (t .stored) (t .keys)) (take (t .stored) (t .counts)) (map (fastaAt K t) cutoffs) (map (closesAt K t) cutoffs)
-resultBy rule (turn K s) = turned (packCall K (bytes s)) (reverseCall K (packed (bytes s)))
+abbrev pub resultBy : Kind → Rule → Example → Result
+resultBy κ rule (grow K labels cutoffs) =
+    let t = addAll κ rule K empty labels in
+    grown (t .answers) (keysOf (t .stored) (t .keys)) (take (t .stored) (t .counts)) (map (fastaAt κ K t) cutoffs) (map (closesAt κ K t) cutoffs)
+resultBy κ rule (turn K s) = turned (packCall K (bytes s)) (reverseCall K (packed (bytes s)))
 
 -- Edges and number stored.
 abbrev pub edges : ℕ → ℕ → Answer Edges
@@ -151,6 +151,6 @@ examples =
     ∷ (turn 64 thirtyThree, turned (refuses 1 (64 ∷ [])) (refuses 1 (64 ∷ [])))
     ∷ []
 
-pub proved : map (λ (e : Example × Result). resultBy sameCanonical (e .0)) examples ≡ map (λ (e : Example × Result). e .1) examples
+pub proved : map (λ (e : Example × Result). resultBy fourBits sameCanonical (e .0)) examples ≡ map (λ (e : Example × Result). e .1) examples
 unfolding openText openLetters openOrder openKmer openCalls openCounted openTable openSightings openAdding openEntries openWalks openLabels openContraction openFasta
 proved = refl

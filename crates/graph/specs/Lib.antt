@@ -11,3 +11,4 @@ pub mod Examples
 pub mod Lent
 pub mod SeveralExamples
 pub mod LoopExamples
+pub mod PresenceExamples

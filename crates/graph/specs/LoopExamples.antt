@@ -7,7 +7,7 @@ use Rattle.dna.specs.Text.{openText}
 use Rattle.dna.specs.Letters.{openLetters}
 use Rattle.dna.specs.Order.{openOrder}
 use Rattle.kmer.specs.Kmer.{openKmer}
-use Rattle.state.specs.Counted.{openCounted}
+use Rattle.state.specs.Counted.{fourBits, openCounted}
 use Rattle.graph.specs.Table.{openTable}
 use Rattle.graph.specs.Sightings.{reversed, openSightings}
 use Rattle.graph.specs.Adding.{openAdding}
@@ -73,6 +73,6 @@ loopExamples =
     )
     ∷ []
 
-pub loops-proved : map (λ (e : Example × Result). resultBy reversed (e .0)) loopExamples ≡ map (λ (e : Example × Result). e .1) loopExamples
+pub loops-proved : map (λ (e : Example × Result). resultBy fourBits reversed (e .0)) loopExamples ≡ map (λ (e : Example × Result). e .1) loopExamples
 unfolding openText openLetters openOrder openKmer openCounted openTable openSightings openAdding openEntries openWalks openLabels openContraction openFasta
 loops-proved = refl

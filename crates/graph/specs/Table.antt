@@ -5,7 +5,7 @@ use mathlib.Core.List.{List, [], _∷_, _++_}
 use lib.Dec.{ltb, leb, eqb}
 use lib.ListN.{length, take, drop, getD, set}
 use Rattle.kmer.specs.Kmer.{low, high, joined, isCanon}
-use Rattle.state.specs.Counted.{Kind, raise}
+use Rattle.state.specs.Counted.{Kind, wordFits, raise}
 
 pub record Table : Type 0 where
   pub keys : List ℕ
@@ -40,6 +40,15 @@ fitFrom K least (x ∷ ks) = leb least x && ltb x (4 ^ K) && isCanon K x && fitF
 abbrev pub fit : ℕ → ℕ → List ℕ → List ℕ → Bool
 fit K n keys counts = leb n (capacity keys counts) && fitFrom K 0 (keysOf n keys)
 
+-- Words without a bit outside their counters.
+unfoldable pub wordsFit : Kind → List ℕ → Bool
+wordsFit κ [] = true
+wordsFit κ (w ∷ ws) = wordFits κ w && wordsFit κ ws
+
+-- Fit as a table of a kind: so are its words.
+abbrev pub fitFor : Kind → ℕ → ℕ → List ℕ → List ℕ → Bool
+fitFor κ K n keys counts = fit K n keys counts && wordsFit κ (take n counts)
+
 -- How many keys stand before x.
 unfoldable pub rank : List ℕ → ℕ → ℕ
 rank [] x = 0
@@ -67,5 +76,5 @@ sight κ t x j =
 
 -- Opens this file's definitions to a proof that computes.
 unfoldable pub openTable : Unit {0}
-unfolding keysOf wordsOf fitFrom rank stored store sight
+unfolding keysOf wordsOf fitFrom wordsFit rank stored store sight
 openTable = tt

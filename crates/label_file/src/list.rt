@@ -23,6 +23,7 @@ use adding::LabelsAnswer;
 use adding::Mode;
 use contraction::ContractAnswer;
 use fasta::FastaAnswer;
+use state::EdgeKind;
 
 // The vertices stored after a label, or the number of its refusal.
 fn stored_by(answer: AddAnswer) -> Outcome
@@ -49,6 +50,7 @@ fn listed_by(answer: ContractAnswer) -> Outcome
         ContractAnswer::FewMarks => Outcome::Refused(7),
         ContractAnswer::MissingVertex => Outcome::Refused(8),
         ContractAnswer::NoRoom => Outcome::Refused(9),
+        ContractAnswer::WrongCutoff => Outcome::Refused(15),
     }
 }
 
@@ -61,6 +63,7 @@ fn take_labels(file: &[u8], k: usize, keys: &mut [u64], counts: &mut [u32]) -> T
     let mut lengths = [0u32; 4096];
     let count = index::index_labels(file, &mut starts, &mut lengths);
     match adding::add_labels(
+        EdgeKind::Counted,
         Mode::SameCanonical,
         k,
         0,
@@ -127,6 +130,7 @@ fn list_table(
     ensures { λ r. ⌜ Lists r (lent (now (keys .entry)) (now (counts .entry)) (now (labels .exit)) (now (starts .exit)) (now (lengths .exit)) (now (marks .exit)) (now (text .exit))) (listedAfter records (lent (now (keys .entry)) (now (counts .entry)) (now (labels .entry)) (now (starts .entry)) (now (lengths .entry)) (now (marks .entry)) (now (text .entry))) (contract fourBits k cutoff n (now (keys .entry)) (now (counts .entry)) (now (labels .entry)) (now (starts .entry)) (now (lengths .entry)) (now (marks .entry)))) ⌝ }
 {
     match listed_by(contraction::contract(
+        EdgeKind::Counted,
         k,
         cutoff,
         n,

@@ -14,11 +14,11 @@ use Rattle.dna.specs.Answer.{refuses}
 use Rattle.kmer.specs.Kmer.{okK, canon, forward}
 use Rattle.state.specs.declared.Side.{Side}
 use Rattle.state.specs.declared.Side.the-variants.{Front, Back}
-use Rattle.state.specs.Counted.{Kind, slotOf, count, edgeAt}
+use Rattle.state.specs.Counted.{Kind, answersFor, slotOf, count, edgeAt}
 use Rattle.state.proofs.Edges.{edge-le, edge-base, cutoff-zero}
 use Rattle.graph.specs.declared.Step.{Step}
 use Rattle.graph.specs.declared.Step.the-variants.{Next, Stop, Missing}
-use Rattle.graph.specs.Table.{tableOf, keysOf, rank, stored, fit}
+use Rattle.graph.specs.Table.{tableOf, keysOf, rank, stored, fitFor}
 use Rattle.graph.specs.Sightings.{Rule}
 use Rattle.graph.specs.Walks.{Ends, endsOf, endOn, edge, seen, leaving, entrance}
 use Rattle.graph.specs.Walks.{visited, isolated, missing, closed, enter, arrive, step, follow, walk}
@@ -156,9 +156,10 @@ module _ {κ : Kind} {rule : Rule} {K : ℕ} {ls : List (List ℕ)} {n : ℕ} {k
     grown-contract =
         let r = run K (keysOf n keys) (endsIn κ cutoff (tableOf n keys counts)) n in
         choose Not8 (not (okK K)) (λ _. other 1 (K ∷ []) marks (λ e. omega arith))
-        (λ _. choose Not8 (not (fit K n keys counts)) (λ _. other 5 [] marks (λ e. omega arith))
+        (λ _. choose Not8 (not (fitFor κ K n keys counts)) (λ _. other 5 [] marks (λ e. omega arith))
+        (λ _. choose Not8 (not (answersFor κ cutoff)) (λ _. other 15 [] marks (λ e. omega arith))
         (λ _. choose Not8 (ltb (length marks) n) (λ _. other 7 [] marks (λ e. omega arith))
         (λ _. choose Not8 (r .missed) (λ m. never (r .missed) m grown-finds)
         (λ _. choose Not8 (ltb (length labels) (length (endToEnd (r .labels))) || ltb (length starts) (length (r .labels))
         || ltb (length lengths) (length (r .labels)))
-        (λ _. other 9 [] (over (replicate n 0) marks) (λ e. omega arith)) (λ _. written-not r)))))
+        (λ _. other 9 [] (over (replicate n 0) marks) (λ e. omega arith)) (λ _. written-not r))))))

@@ -10,13 +10,13 @@ use borrow.Author.Tests.{le-leb}
 use Rattle.dna.specs.Answer.{Answer, gives, refuses}
 use Rattle.kmer.specs.Kmer.{canon}
 use Rattle.state.specs.Counted.{Kind}
-use Rattle.graph.specs.Table.{Table, tableOf, keysOf, capacity, fit, fitFrom, stored}
+use Rattle.graph.specs.Table.{Table, tableOf, keysOf, capacity, fit, fitFor, wordsFit, fitFrom, stored}
 use Rattle.graph.specs.Sightings.{Rule, window, windows}
 use Rattle.graph.specs.Adding.{Edges, Added, storeWindows, added, storedAfter, addLabel}
 use Rattle.graph.proofs.Rank.{stored-nil}
 use Rattle.graph.proofs.Keys.{keys-length}
 use Rattle.graph.proofs.Adding.{store-or, added-keys}
-use Rattle.graph.proofs.Accepted.{fit-room, fit-length, fit-sound, accepted, accepted-fit, refused-same}
+use Rattle.graph.proofs.Accepted.{fit-for-both, fit-room, fit-length, fit-sound, accepted, accepted-fit, refused-same}
 use Rattle.laws.specs.Grown.{Grown, fresh, accepts, moves, shows, seenIn}
 
 -- ---- fit
@@ -26,19 +26,21 @@ module _ (κ : Kind) (rule : Rule) (K n : ℕ) (keys counts label : List ℕ) wh
   done = addLabel κ rule K n keys counts label
 
   -- Adding keeps a table fit, whatever it answers.
-  pub add-fit : fit K n keys counts ≡ true → fit K (storedAfter n (done .answer)) (done .keys) (done .counts) ≡ true
+  pub add-fit : fitFor κ K n keys counts ≡ true → fitFor κ K (storedAfter n (done .answer)) (done .keys) (done .counts) ≡ true
   add-fit f = go (done .answer) refl
     where
-      go : (a : Answer Edges) → done .answer ≡ a → fit K (storedAfter n a) (done .keys) (done .counts) ≡ true
+      go : (a : Answer Edges) → done .answer ≡ a → fitFor κ K (storedAfter n a) (done .keys) (done .counts) ≡ true
       go (gives e) h = accepted-fit κ rule K n keys counts label e h
       go (refuses x vs) h =
           let s = refused-same κ rule K n keys counts label x vs h in
           rw (s .keys-same, s .counts-same) f
 
--- Vertices that are fit stay so in other slices: their keys are the same, and there is room for as many as there are.
-moved-fit : (K n : ℕ) (keys counts keys′ counts′ : List ℕ) → tableOf n keys′ counts′ ≡ tableOf n keys counts
-    → fit K n keys counts ≡ true → fit K n keys′ counts′ ≡ true
-moved-fit K n keys counts keys′ counts′ e f =
+-- Vertices that are fit stay so in other slices: their keys and words are the same, and there is room for as many as there are.
+moved-fit : (κ : Kind) (K n : ℕ) (keys counts keys′ counts′ : List ℕ) → tableOf n keys′ counts′ ≡ tableOf n keys counts
+    → fitFor κ K n keys counts ≡ true → fitFor κ K n keys′ counts′ ≡ true
+moved-fit κ K n keys counts keys′ counts′ e w =
+    let h = fit-for-both κ K n keys counts w in
+    let f = h .0 in
     let ks : keysOf n keys′ ≡ keysOf n keys = ap (λ (t : Table). t .keys) e in
     let cs : take n counts′ ≡ take n counts = ap (λ (t : Table). t .counts) e in
     let size : length (keysOf n keys) ≡ n = fit-length K n keys counts f in
@@ -46,15 +48,19 @@ moved-fit K n keys counts keys′ counts′ e f =
     let there : n ≤ length counts′ = omega (arith, size, fit-sound K n keys counts f .sizes, length-take n counts′, ap length cs) in
     let few : n ≤ 65536 = omega (arith, fit-room K n keys counts f) in
     let room : n ≤ capacity keys′ counts′ = omega arith in
-    rw (le-leb n (capacity keys′ counts′) room, ks) (fit-sound K n keys counts f .fits)
+    rw (le-leb n (capacity keys′ counts′) room, ks, cs, fit-sound K n keys counts f .fits) (h .1)
 
 module _ {κ : Kind} {rule : Rule} {K : ℕ} where
-  -- A grown table is fit.
+  -- A grown table is fit for its kind,
+  pub grown-fit-for : {ls : List (List ℕ)} {n : ℕ} {keys counts : List ℕ} → Grown κ rule K ls n keys counts → fitFor κ K n keys counts ≡ true
+  unfolding keysOf fitFrom wordsFit
+  grown-fit-for (fresh keys counts) = rw (le-leb 0 (capacity keys counts) (omega arith))
+  grown-fit-for (accepts {n = n} {keys = keys} {counts = counts} g l e h) = accepted-fit κ rule K n keys counts l e h
+  grown-fit-for (moves {n = n} {keys = keys} {counts = counts} g keys′ counts′ e) = moved-fit κ K n keys counts keys′ counts′ e (grown-fit-for g)
+
+  -- and so fit.
   pub grown-fit : {ls : List (List ℕ)} {n : ℕ} {keys counts : List ℕ} → Grown κ rule K ls n keys counts → fit K n keys counts ≡ true
-  unfolding keysOf fitFrom
-  grown-fit (fresh keys counts) = rw (le-leb 0 (capacity keys counts) (omega arith))
-  grown-fit (accepts {n = n} {keys = keys} {counts = counts} g l e h) = accepted-fit κ rule K n keys counts l e h
-  grown-fit (moves {n = n} {keys = keys} {counts = counts} g keys′ counts′ e) = moved-fit K n keys counts keys′ counts′ e (grown-fit g)
+  grown-fit {n = n} {keys = keys} {counts = counts} g = fit-for-both κ K n keys counts (grown-fit-for g) .0
 
 -- ---- keys
 

@@ -42,6 +42,8 @@ pub mod Isolated
 pub mod Strands
 pub mod Turned
 pub mod Tables
+pub mod AnyKind
+pub mod Beside
 pub mod Demand
 pub mod Asked
 pub mod LoopExample

@@ -12,8 +12,8 @@ use lib.Seq.{take-at, drop-at}
 use Rattle.lemmas.proofs.Tests.{choose}
 use Rattle.dna.specs.Answer.{gives}
 use Rattle.kmer.specs.Kmer.{okK}
-use Rattle.state.specs.Counted.{Kind}
-use Rattle.graph.specs.Table.{tableOf, keysOf, fit}
+use Rattle.state.specs.Counted.{Kind, answersFor}
+use Rattle.graph.specs.Table.{tableOf, keysOf, fit, fitFor}
 use Rattle.graph.specs.Entries.{listed, within}
 use Rattle.graph.specs.Walks.{Ends}
 use Rattle.graph.specs.Labels.{Run, run}
@@ -21,6 +21,7 @@ use Rattle.graph.specs.Contraction.{Entry, Totals, Contracted, entries, sorted,
 use Rattle.laws.specs.Windows.{occurrences}
 use Rattle.laws.specs.Demand.{Each, Each.none, Each.more, inOrder, Always}
 use Rattle.laws.proofs.Indexed.{sorted-length, sorted-each, sorted-occurrences}
+use Rattle.graph.proofs.Accepted.{fit-for-both}
 use Rattle.laws.proofs.Fits.{fit-always}
 
 -- The entry's label stands where the entry says, within the bytes.
@@ -120,14 +121,16 @@ module _ (κ : Kind) (K cutoff n : ℕ) (keys counts labels starts lengths marks
   accepted t =
       let r = run K ks es n in
       choose P (not (okK K)) (λ _ h. absurd (let z : _≡_ {A = ℕ} 0 1 = cc in omega arith))
-      (λ p. choose P (not (fit K n keys counts)) (λ _ h. absurd (let z : _≡_ {A = ℕ} 0 1 = cc in omega arith))
-      (λ q. choose P (ltb (length marks) n) (λ _ h. absurd (let z : _≡_ {A = ℕ} 0 1 = cc in omega arith))
+      (λ p. choose P (not (fitFor κ K n keys counts)) (λ _ h. absurd (let z : _≡_ {A = ℕ} 0 1 = cc in omega arith))
+      (λ q. choose P (not (answersFor κ cutoff)) (λ _ h. absurd (let z : _≡_ {A = ℕ} 0 1 = cc in omega arith))
+      (λ _. choose P (ltb (length marks) n) (λ _ h. absurd (let z : _≡_ {A = ℕ} 0 1 = cc in omega arith))
       (λ _ h.
       let w = finished r t h in
       let a : written κ K cutoff n keys counts labels starts lengths marks (run K ks es n) .answer ≡ gives t =
       ap (λ (c : Contracted). c .answer) (sym w) ∙ h in
       let s = written-totals r t a in
-      record { ok = not-false (okK K) p; fits = not-false (fit K n keys counts) q; is = w; number = s .0; bases = s .1 })))
+      let f = fit-for-both κ K n keys counts (not-false (fitFor κ K n keys counts) q) .0 in
+      record { ok = not-false (okK K) p; fits = f; is = w; number = s .0; bases = s .1 }))))
     where
       P : Contracted → Type 0
       P c = c .answer ≡ gives t → Accepted c t

@@ -12,13 +12,13 @@ use Rattle.dna.specs.Text.{over}
 use Rattle.dna.specs.Answer.{gives, refuses}
 use Rattle.kmer.specs.Kmer.{okK}
 use Rattle.state.specs.declared.Side.the-variants.{Front, Back}
-use Rattle.state.specs.Counted.{Kind}
-use Rattle.graph.specs.Table.{tableOf, keysOf, fit}
+use Rattle.state.specs.Counted.{Kind, answersFor}
+use Rattle.graph.specs.Table.{tableOf, keysOf, fitFor}
 use Rattle.graph.specs.Entries.{listed}
 use Rattle.graph.specs.Walks.{Ends, walk, visited, isolated}
 use Rattle.graph.specs.Labels.{Run, labelOf, extract, run}
 use Rattle.graph.specs.Contraction.{Totals, Contracted, refused, endToEnd, endsIn, finish, written, contract}
-use Rattle.graph.proofs.Accepted.{fit-length}
+use Rattle.graph.proofs.Accepted.{fit-for-both, fit-length}
 use Rattle.laws.specs.Windows.{occurrences}
 use Rattle.laws.specs.Demand.{Each, HoldsLive}
 use Rattle.laws.proofs.Runs.{run-toured}
@@ -117,8 +117,10 @@ module _ (κ : Kind) (K cutoff n : ℕ) (keys counts labels starts lengths marks
   contract-fits =
       let es = endsIn κ cutoff (tableOf n keys counts) in
       choose Not9 (not (okK K)) (λ _. other 1 (K ∷ []) marks (λ e. omega arith))
-      (λ ok. choose Not9 (not (fit K n keys counts)) (λ _. other 5 [] marks (λ e. omega arith))
-      (λ f. choose Not9 (ltb (length marks) n) (λ _. other 7 [] marks (λ e. omega arith))
-      (λ _. finish-fits (run K (keysOf n keys) es n)
-      (omega (arith, fit-bases κ K cutoff n keys counts (not-false (fit K n keys counts) f) (not-false (okK K) ok)))
-      (run-number K (keysOf n keys) es n))))
+      (λ ok. choose Not9 (not (fitFor κ K n keys counts)) (λ _. other 5 [] marks (λ e. omega arith))
+      (λ f. choose Not9 (not (answersFor κ cutoff)) (λ _. other 15 [] marks (λ e. omega arith))
+      (λ _. choose Not9 (ltb (length marks) n) (λ _. other 7 [] marks (λ e. omega arith))
+      (λ _.
+      let fits = fit-for-both κ K n keys counts (not-false (fitFor κ K n keys counts) f) .0 in
+      finish-fits (run K (keysOf n keys) es n) (omega (arith, fit-bases κ K cutoff n keys counts fits (not-false (okK K) ok)))
+      (run-number K (keysOf n keys) es n)))))

@@ -3,9 +3,9 @@ use mathlib.Core.Path.{_≡_, refl, sym, ap, _∙_}
 use mathlib.Core.Bool.{true}
 use mathlib.Core.List.{List}
 use Prim.Native.Nat.{ℕ}
-use lib.ListN.{length, take}
-use Rattle.state.specs.Counted.{Kind}
-use Rattle.graph.specs.Table.{Table, tableOf, keysOf, fit}
+use lib.ListN.{length}
+use Rattle.state.specs.Counted.{Kind, answersFor}
+use Rattle.graph.specs.Table.{Table, tableOf, keysOf, fitFor}
 use Rattle.graph.specs.Sightings.{Rule}
 use Rattle.graph.specs.Adding.{added}
 use Rattle.graph.specs.Contraction.{endsIn, written, finish, contract}
@@ -32,12 +32,17 @@ module _ {κ : Kind} {rule : Rule} {K : ℕ} where
         e,
       )
 
+-- Tables of two kinds with the same keys and the same edges, contracted.
+pub contract-alike : (κ μ : Kind) (K cutoff n : ℕ) (keys counts keys′ counts′ labels starts lengths marks : List ℕ)
+    → fitFor κ K n keys counts ≡ true → fitFor μ K n keys′ counts′ ≡ true → answersFor κ cutoff ≡ answersFor μ cutoff
+    → keysOf n keys ≡ keysOf n keys′ → endsIn κ cutoff (tableOf n keys counts) ≡ endsIn μ cutoff (tableOf n keys′ counts′)
+    → contract κ K cutoff n keys counts labels starts lengths marks ≡ contract μ K cutoff n keys′ counts′ labels starts lengths marks
+unfolding contract finish written
+contract-alike κ μ K cutoff n keys counts keys′ counts′ labels starts lengths marks f f′ a ks es = rw (f, f′, a, es, ks)
+
 -- Two slices that hold the same vertices, contracted.
 pub contract-same : (κ : Kind) (K cutoff n : ℕ) (keys counts keys′ counts′ labels starts lengths marks : List ℕ)
-    → fit K n keys counts ≡ true → fit K n keys′ counts′ ≡ true → tableOf n keys′ counts′ ≡ tableOf n keys counts
+    → fitFor κ K n keys counts ≡ true → fitFor κ K n keys′ counts′ ≡ true → tableOf n keys′ counts′ ≡ tableOf n keys counts
     → contract κ K cutoff n keys′ counts′ labels starts lengths marks ≡ contract κ K cutoff n keys counts labels starts lengths marks
-unfolding contract written finish endsIn
 contract-same κ K cutoff n keys counts keys′ counts′ labels starts lengths marks f f′ e =
-    let ks : keysOf n keys′ ≡ keysOf n keys = ap (λ (t : Table). t .keys) e in
-    let cs : take n counts′ ≡ take n counts = ap (λ (t : Table). t .counts) e in
-    rw (f, f′, ks, cs)
+    contract-alike κ κ K cutoff n keys′ counts′ keys counts labels starts lengths marks f′ f refl (ap (λ (t : Table). t .keys) e) (ap (endsIn κ cutoff) e)

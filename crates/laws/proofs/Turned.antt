@@ -18,7 +18,7 @@ use Rattle.kmer.specs.Kmer.{okK}
 use Rattle.kmer.proofs.Windows.{Bases}
 use Rattle.kmer.proofs.Testing.{no-bad, no-bad-bases}
 use Rattle.state.specs.Counted.{Kind}
-use Rattle.graph.specs.Table.{tableOf, fit}
+use Rattle.graph.specs.Table.{tableOf, fit, fitFor}
 use Rattle.graph.specs.Sightings.{reversed}
 use Rattle.graph.specs.Adding.{Edges, Added, addBases, addLabel}
 use Rattle.graph.specs.Several.{Several, addNext, addEach}
@@ -105,7 +105,7 @@ module _ (κ : Kind) (K : ℕ) (odd : K % 2 ≡ 1) where
     strange-alike label x y xs ys e f =
         rw (length-reverseComplement label, e, f)
         (cond-alike (not (okK K)) same
-        (cond-alike (not (fit K n keys counts)) same
+        (cond-alike (not (fitFor κ K n keys counts)) same
         (cond-alike (ltb 4096 (length label)) same (cond-alike (ltb (length label) K) same no-base))))
 
     -- Any label.

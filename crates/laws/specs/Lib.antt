@@ -5,3 +5,4 @@ pub mod Windows
 pub mod Demand
 pub mod Neighbours
 pub mod Strands
+pub mod Beside

@@ -4,18 +4,17 @@ ghost use mathlib.Core.List.{map};
 ghost use Prim.Native.Nat.{min};
 ghost use lib.ListN.{length, take, replicate};
 ghost use Rattle.dna.specs.Text.{over};
-ghost use Rattle.state.specs.Counted.{fourBits};
+ghost use Rattle.state.specs.Says.{kindOf};
 ghost use Rattle.marks.specs.Marks.{markOf, visits};
-use state::EdgeFrequency;
+use state::EdgeKind;
 use state::Side;
 
 // A vertex's two edges in one byte.
-fn mark_of(word: u32, cutoff: u32) -> u8
-    ensures { λ r. ⌜ r ≡ markOf fourBits cutoff word ⌝ }
+fn mark_of(kind: EdgeKind, word: u32, cutoff: u32) -> u8
+    ensures { λ r. ⌜ r ≡ markOf (kindOf kind) cutoff word ⌝ }
 {
-    let edges = EdgeFrequency { packed: word };
-    let front = edges.edge_at(Side::Front, cutoff);
-    let back = edges.edge_at(Side::Back, cutoff);
+    let front = state::edge_of(kind, word, Side::Front, cutoff);
+    let back = state::edge_of(kind, word, Side::Back, cutoff);
     front.bits() + 8 * back.bits()
 }
 
@@ -26,13 +25,13 @@ fn least(a: usize, b: usize) -> usize
 }
 
 // The edges of as many vertices as there are marks and counts; a mark that has no counts stays.
-pub fn digest(counts: &[u32], cutoff: u32, marks: &mut [u8])
-    ensures { λ _. ⌜ now (marks .exit) ≡ over (map (markOf fourBits cutoff) (take (length (now (marks .entry))) (now (counts .entry)))) (now (marks .entry)) ⌝ }
+pub fn digest(kind: EdgeKind, counts: &[u32], cutoff: u32, marks: &mut [u8])
+    ensures { λ _. ⌜ now (marks .exit) ≡ over (map (markOf (kindOf kind) cutoff) (take (length (now (marks .entry))) (now (counts .entry)))) (now (marks .entry)) ⌝ }
 {
     let n = least(marks.len(), counts.len());
     let mut i = 0;
     while i < n {
-        marks[i] = mark_of(counts[i], cutoff);
+        marks[i] = mark_of(kind, counts[i], cutoff);
         i += 1;
     }
 }

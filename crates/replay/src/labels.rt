@@ -40,6 +40,7 @@ fn add(fd: i32, k: usize, before: After, keys: &mut [u64], counts: &mut [u32]) -
     read::fill(fd, length, &mut label);
     answered(
         adding::add_label(
+            state::EdgeKind::Counted,
             adding::Mode::SameCanonical,
             k,
             before.stored,

@@ -68,6 +68,7 @@ fn contracted(
 ) -> u8 {
     let mut marks = [0u8; 32];
     let all = sums(contraction::contract(
+        state::EdgeKind::Counted,
         k,
         cutoff,
         n,

@@ -13,7 +13,7 @@ use borrow.Author.Tests.{eqb-true, eqb-false, ltb-true, ltb-false, eq-eqb, ne-eq
 use Rattle.lemmas.proofs.Tests.{choose}
 use Rattle.state.specs.Counted.{Kind, top, unit, count, raise}
 
-unit-pos : (κ : Kind) (i : ℕ) → 0 < unit κ i
+pub unit-pos : (κ : Kind) (i : ℕ) → 0 < unit κ i
 unit-pos κ i = pow-pos (κ .first + κ .width * i)
 
 -- The unit of a later counter.
@@ -83,7 +83,7 @@ unfolding raise
 raise-more κ w j h = simp (ne-eqb (count κ w j) (top κ) (λ e. omega arith))
 
 -- What holds of a word in which counter j is full, and of one with a unit more where it is not, holds of the raised one.
-raised-by :
+pub raised-by :
     (P : ℕ → Type 0) (κ : Kind) (w j : ℕ) →
     (top κ ≡ count κ w j → P w) → (count κ w j < top κ → P (w + unit κ j)) → P (raise κ w j)
 unfolding raise

@@ -1,7 +1,10 @@
 pub mod Field
 pub mod Counters
 pub mod Words
+pub mod Laid
+pub mod Asked
 pub mod Slots
 pub mod Retained
 pub mod Edges
+pub mod AnyKind
 pub mod Says

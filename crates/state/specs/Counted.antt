@@ -1,4 +1,4 @@
--- Eight counters in one word, Front A, C, G, T and then Back A, C, G, T, and what is asked of them. Assumes nothing.
+-- Eight counters in one word, Front A, C, G, T and then Back A, C, G, T, of whatever kind, and what is asked of them. Assumes nothing.
 use Prim.Native.Nat.{ℕ, zero, suc, _+_, _-_, _*_, _/_, _%_, _^_}
 use mathlib.Core.Bool.{Bool, true, false, cond, Bool·beq, _&&_, _||_}
 use mathlib.Core.List.{List, [], _∷_}
@@ -17,9 +17,17 @@ pub record Kind : Type 0 where
 abbrev pub fourBits : Kind
 fourBits = record { width = 4; first = 0 }
 
+-- Presence bits: one each, from bit 3 on.
+abbrev pub presence : Kind
+presence = record { width = 1; first = 3 }
+
 -- A counter stops at its top.
 abbrev pub top : Kind → ℕ
 top κ = 2 ^ κ .width - 1
+
+-- Whether a kind answers for a cutoff: counters for each, a single bit, which only tells that an edge was seen, for 1.
+abbrev pub answersFor : Kind → ℕ → Bool
+answersFor κ cutoff = ltb 1 (κ .width) || eqb cutoff 1
 
 abbrev pub opposite : Side → Side
 opposite Front = Back
@@ -40,6 +48,10 @@ slotOf Back b = 4 + b
 -- The word in which counter j is 1 and the others are 0.
 abbrev pub unit : Kind → ℕ → ℕ
 unit κ j = 2 ^ (κ .first + κ .width * j)
+
+-- A word without a bit outside its eight counters.
+abbrev pub wordFits : Kind → ℕ → Bool
+wordFits κ w = eqb (w % unit κ 0) 0 && ltb w (unit κ 8)
 
 -- The count that a word holds in counter j.
 unfoldable pub count : Kind → ℕ → ℕ → ℕ
@@ -81,6 +93,10 @@ isEmpty κ cutoff w s = eqb (edgeCount κ cutoff w s) 0
 -- Isolated: no retained edge on either side.
 abbrev pub isIsolated : Kind → ℕ → ℕ → Bool
 isIsolated κ cutoff w = isEmpty κ cutoff w Front && isEmpty κ cutoff w Back
+
+-- What is asked at a cutoff; 15 where the kind does not answer for it.
+abbrev pub atCutoff : {A : Type 0} → Kind → ℕ → A → Answer A
+atCutoff κ cutoff a = cond (answersFor κ cutoff) (gives a) (refuses 15 [])
 
 -- A side's count of a base; 10 for what is no base.
 abbrev pub frequencyCall : Kind → ℕ → Side → ℕ → Answer ℕ

@@ -1,12 +1,18 @@
 // Prints what the counters answer: each raised 0, 1, 15 and 16 times beside others that are empty, at 2 and full, and every edge
-// and pair of neighbours added to one word. The file `stdout` beside this holds what the Rust original answers to the same
-// questions (oracle/).
+// and pair of neighbours added to one word. Then what presence bits answer: in each of their 256 words and in some with stray bits,
+// and every edge and pair of neighbours added to some words. The file `stdout` beside this holds what the Rust original answers to
+// the same questions (oracle/).
 use dna::Base;
 use libc::STDOUT_FILENO;
 use state::Counting;
+use state::EdgeAnswer;
 use state::EdgeFrequency;
+use state::EdgePresence;
 use state::Frequency;
+use state::Marking;
+use state::NumberAnswer;
 use state::Side;
+use state::TestAnswer;
 
 fn text(s: &[u8]) {
     io::write_all(STDOUT_FILENO, s);
@@ -186,7 +192,144 @@ fn updates(edges: EdgeFrequency, front: u32) {
     update(edges, front, 5);
 }
 
-fn main() {
+fn flags_word(present: EdgePresence) {
+    text(b" ");
+    io::print_hex(STDOUT_FILENO, present.flags as u64, 8);
+}
+
+fn number_answer(answer: NumberAnswer) {
+    match answer {
+        NumberAnswer::Edges(n) => number(n),
+        NumberAnswer::WrongCutoff => text(b" R15"),
+    }
+}
+
+fn edge_answer(answer: EdgeAnswer) {
+    match answer {
+        EdgeAnswer::Edge(b) => number(b.bits() as u32),
+        EdgeAnswer::WrongCutoff => text(b" R15"),
+    }
+}
+
+fn test_answer(answer: TestAnswer) {
+    match answer {
+        TestAnswer::Is(t) => test(t),
+        TestAnswer::WrongCutoff => text(b" R15"),
+    }
+}
+
+fn marked(answer: Marking) {
+    match answer {
+        Marking::Done(present) => flags_word(present),
+        Marking::NoBase => text(b" R10"),
+    }
+    text(b"\n");
+}
+
+fn ask_present_side(present: EdgePresence, side: Side, cutoff: u32) {
+    number_answer(present.edge_count(side, cutoff));
+    edge_answer(present.edge_at(side, cutoff));
+    test_answer(present.is_branching_side(side, cutoff));
+    test_answer(present.is_empty_side(side, cutoff));
+}
+
+fn ask_present(present: EdgePresence, cutoff: u32) {
+    text(b"cutoff");
+    number(cutoff);
+    ask_present_side(present, Side::Front, cutoff);
+    ask_present_side(present, Side::Back, cutoff);
+    test_answer(present.is_isolated(cutoff));
+    text(b"\n");
+}
+
+fn show_present(flags: u32) {
+    let present = EdgePresence { flags };
+    text(b"presence");
+    flags_word(present);
+    text(b"\n");
+    ask_present(present, 0);
+    ask_present(present, 1);
+    ask_present(present, 2);
+    ask_present(present, 16);
+}
+
+// The 256 words without a stray bit.
+fn every_present() {
+    let mut flags: u32 = 0;
+    while flags < 0x800 {
+        show_present(flags);
+        flags += 8;
+    }
+}
+
+// Words with stray bits, which change no answer.
+fn stray_present() {
+    show_present(0x7f9);
+    show_present(0x807);
+    show_present(0x80000000);
+    show_present(0xfffff807);
+    show_present(0xfffffaaf);
+    show_present(0xffffffff);
+}
+
+fn mark(present: EdgePresence, to: u32, code: u32) {
+    text(b"add");
+    number(to);
+    number(code);
+    marked(present.add_edge(side(to), base(code)));
+}
+
+fn marks(present: EdgePresence, to: u32) {
+    mark(present, to, 0);
+    mark(present, to, 1);
+    mark(present, to, 2);
+    mark(present, to, 3);
+    mark(present, to, 4);
+    mark(present, to, 5);
+}
+
+fn mark_both(present: EdgePresence, front: u32, back: u32) {
+    text(b"update");
+    number(front);
+    number(back);
+    marked(present.update_edges(base(front), base(back)));
+}
+
+fn marks_both(present: EdgePresence, front: u32) {
+    mark_both(present, front, 0);
+    mark_both(present, front, 1);
+    mark_both(present, front, 2);
+    mark_both(present, front, 3);
+    mark_both(present, front, 4);
+    mark_both(present, front, 5);
+}
+
+fn mark_from(flags: u32) {
+    let present = EdgePresence { flags };
+    text(b"presence");
+    flags_word(present);
+    text(b"\n");
+    marks(present, 0);
+    marks(present, 1);
+    marks_both(present, 0);
+    marks_both(present, 1);
+    marks_both(present, 2);
+    marks_both(present, 3);
+    marks_both(present, 4);
+    marks_both(present, 5);
+}
+
+// A word without a bit, one with some, one with all; then stray bits, which stay.
+fn mark_all() {
+    mark_from(0);
+    mark_from(0x128);
+    mark_from(0x7f8);
+    mark_from(0x807);
+    mark_from(0xfffff807);
+    mark_from(0xffffffff);
+}
+
+fn counters() {
     limits(0);
     limits(2);
     limits(15);
@@ -199,4 +342,11 @@ fn main() {
     updates(start, 3);
     updates(start, 4);
     updates(start, 5);
+}
+
+fn main() {
+    counters();
+    every_present();
+    stray_present();
+    mark_all();
 }

@@ -10,6 +10,7 @@ pub mod Short
 pub mod BoundsIn
 pub mod Verdict
 pub mod Told
+pub mod Presence
 pub mod Says
 pub mod Writing
 pub mod Lifting

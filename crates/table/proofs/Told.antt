@@ -6,7 +6,8 @@ use Prim.Native.Nat.{ℕ}
 use native.Mathlib.Omega.{arith}
 use Rattle.dna.specs.Answer.{Answer, gives, refuses}
 use Rattle.kmer.specs.Kmer.{okK}
-use Rattle.graph.specs.Table.{fit}
+use Rattle.state.specs.Counted.{Kind}
+use Rattle.graph.specs.Table.{fitFor}
 use Rattle.table.specs.Calls.{fitAnswer, fitCall}
 use Rattle.table.specs.declared.FitAnswer.{FitAnswer}
 use Rattle.table.specs.declared.FitAnswer.the-variants.{Fit, Unfit, UnsupportedK}
@@ -33,12 +34,12 @@ passed K false u e = let z : _≡_ {A = ℕ} 0 1 = cc in absurd (omega arith)
 
 -- ---- the answer
 
-module _ (K n : ℕ) (keys counts : List ℕ) {r : FitAnswer} (t : fitAnswer r ≡ fitCall K n keys counts) where
+module _ (κ : Kind) (K n : ℕ) (keys counts : List ℕ) {r : FitAnswer} (t : fitAnswer r ≡ fitCall κ K n keys counts) where
   pub told-unsupported : {k : ℕ} → r ≡ UnsupportedK k → (okK K ≡ false) × (k ≡ K)
-  told-unsupported {k} e = refused-1 K k (okK K) (fit K n keys counts) (sym (ap fitAnswer e) ∙ t)
+  told-unsupported {k} e = refused-1 K k (okK K) (fitFor κ K n keys counts) (sym (ap fitAnswer e) ∙ t)
 
-  pub told-unfit : r ≡ Unfit → (okK K ≡ true) × (fit K n keys counts ≡ false)
-  told-unfit e = refused-5 K (okK K) (fit K n keys counts) (sym (ap fitAnswer e) ∙ t)
+  pub told-unfit : r ≡ Unfit → (okK K ≡ true) × (fitFor κ K n keys counts ≡ false)
+  told-unfit e = refused-5 K (okK K) (fitFor κ K n keys counts) (sym (ap fitAnswer e) ∙ t)
 
-  pub told-fit : r ≡ Fit → (okK K ≡ true) × (fit K n keys counts ≡ true)
-  told-fit e = passed K (okK K) (fit K n keys counts) (sym (ap fitAnswer e) ∙ t)
+  pub told-fit : r ≡ Fit → (okK K ≡ true) × (fitFor κ K n keys counts ≡ true)
+  told-fit e = passed K (okK K) (fitFor κ K n keys counts) (sym (ap fitAnswer e) ∙ t)

@@ -5,13 +5,16 @@ ghost use Prim.Native.Nat.{_+_, _*_, _/_, _%_, _^_, _≤_, _<_};
 ghost use lib.Dec.{ltb};
 ghost use lib.ListN.{length};
 ghost use Rattle.kmer.specs.Kmer.{okK, joined, isCanon, rc};
+ghost use Rattle.state.specs.Says.{kindOf};
 ghost use Rattle.graph.specs.Table.{keysOf, fitFrom};
 ghost use Rattle.table.specs.Bounds.{boundOf, unitOf, Bounds};
 ghost use Rattle.table.specs.Calls.{fitCall, fitAnswer};
 use super::FitAnswer;
 use super::capacity;
+use super::words::words_fit;
 use kmer::Kmer;
 use kmer::TestAnswer;
+use state::EdgeKind;
 
 // Four bases turned: their reverse complement.
 fn turned(byte: u8) -> u8
@@ -175,9 +178,9 @@ fn keys_fit(k: usize, n: usize, keys: &[u64]) -> bool
     all_fit(k, n, keys, &bounds)
 }
 
-// K is tested first, then the room, then the keys.
-pub fn fit(k: usize, n: usize, keys: &[u64], counts: &[u32]) -> FitAnswer
-    ensures { λ r. ⌜ fitAnswer r ≡ fitCall k n (now (keys .entry)) (now (counts .entry)) ⌝ }
+// K is tested first, then the room, the keys, the words.
+pub fn fit(kind: EdgeKind, k: usize, n: usize, keys: &[u64], counts: &[u32]) -> FitAnswer
+    ensures { λ r. ⌜ fitAnswer r ≡ fitCall (kindOf kind) k n (now (keys .entry)) (now (counts .entry)) ⌝ }
 {
     if k == 0 {
         return FitAnswer::UnsupportedK(k);
@@ -188,7 +191,10 @@ pub fn fit(k: usize, n: usize, keys: &[u64], counts: &[u32]) -> FitAnswer
     if capacity(keys, counts) < n {
         return FitAnswer::Unfit;
     }
-    if keys_fit(k, n, keys) {
+    if !keys_fit(k, n, keys) {
+        return FitAnswer::Unfit;
+    }
+    if words_fit(kind, n, counts) {
         return FitAnswer::Fit;
     }
     FitAnswer::Unfit

@@ -6,6 +6,7 @@ ghost use Rattle.graph.specs.Table.{capacity as room};
 mod fitting;
 mod joining;
 mod search;
+mod words;
 
 pub use fitting::fit;
 pub use joining::join;

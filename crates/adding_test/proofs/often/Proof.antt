@@ -7,10 +7,10 @@ use Rattle.adding_test.proofs.often.Statement.{statement}
 use Rattle.adding_test.proofs.often.Tie as tie
 
 abbrev Inv-loop : tie.InvT-loop
-Inv-loop mode k label times keys₀ counts₀ n₀ i₀ keys counts n i = (length keys ≡ 8) × (length counts ≡ 4)
+Inv-loop kind mode k label times keys₀ counts₀ n₀ i₀ keys counts n i = (length keys ≡ 8) × (length counts ≡ 4)
 
 abbrev μ-loop : tie.MeasureT-loop
-μ-loop mode k label times keys₀ counts₀ n₀ i₀ keys counts n i = times - i
+μ-loop kind mode k label times keys₀ counts₀ n₀ i₀ keys counts n i = times - i
 
 pub often-spec : {M : Type 1} → statement M
 often-spec =

@@ -12,11 +12,12 @@ tell-contracted-spec =
     tie.close
     (tie.spec
     (λ c. search needs) (λ c κs. search needs) (λ c. search needs) (λ c κs. search needs) (λ c. search needs) (λ c. search needs) (λ c. search needs)
-    (λ c. search needs) (λ c. search needs)
+    (λ c. search needs) (λ c. search needs) (λ c. search needs)
     (λ c. told (ap contractAnswer (c .before .before .before .before .before .answer .given .1)) refl (c .before .before .note-two .ensures))
     (λ c. search needs)
     (λ c. told (ap contractAnswer (c .before .before .before .before .before .answer2 .given .1)) refl (c .before .before .note .ensures))
     (λ c. told (ap contractAnswer (c .enum-told .given .1)) refl (noted-none _))
     (λ c. told (ap contractAnswer (c .enum-told2 .given .1)) refl (noted-none _))
     (λ c. told (ap contractAnswer (c .enum-told3 .given .1)) refl (noted-none _))
-    (λ c. told (ap contractAnswer (c .enum-told4 .given .1)) refl (noted-none _)))
+    (λ c. told (ap contractAnswer (c .enum-told4 .given .1)) refl (noted-none _))
+    (λ c. told (ap contractAnswer (c .enum-told5 .given .1)) refl (noted-none _)))

@@ -2,7 +2,8 @@
 use mathlib.Core.Path.{ap, ap₂, _∙_}
 use Prim.Native.Nat.{_/_, _%_}
 use Rattle.kmer.specs.Says.{numberIn}
-use Rattle.state.specs.Counted.{fourBits, updateCall}
+use Rattle.state.specs.Counted.{updateCall}
+use Rattle.state.specs.Says.{kindOf}
 use Rattle.state.proofs.Slots.{update-done}
 use borrow.Author.Needs.{needs}
 use Rattle.adding.proofs.counting.counted.Statement.{statement}
@@ -15,8 +16,8 @@ returns c =
     let note = s .args .note in
     c .word-of .ensures
     ∙ ap numberIn (c .before .update-edges .ensures
-    ∙ ap₂ (updateCall fourBits (s .args .word)) (bases .before .base-of .ensures) (bases .base-of2 .ensures)
-    ∙ update-done fourBits (s .args .word) (note % 8) (note / 8 % 8) (s .pre .front-known) (s .pre .back-known))
+    ∙ ap₂ (updateCall (kindOf (s .args .kind)) (s .args .word)) (bases .before .base-of .ensures) (bases .base-of2 .ensures)
+    ∙ update-done (kindOf (s .args .kind)) (s .args .word) (note % 8) (note / 8 % 8) (s .pre .front-known) (s .pre .back-known))
 
 pub counted-spec : {M : Type 1} → statement M
 counted-spec =

@@ -3,16 +3,17 @@ use mathlib.Core.Path.{sym, _∙_}
 use Prim.Native.Nat.{_-_}
 use native.Mathlib.Omega.{arith}
 use Rattle.adding.proofs.Grouping.{Grouping, last-some, grouping-none, grouping-same, grouping-new, grouping-all}
+use Rattle.state.specs.Says.{kindOf}
 use borrow.Author.Needs.{needs}
 use Rattle.adding.proofs.counting.group.Statement.{statement}
 use Rattle.adding.proofs.counting.group.Tie as tie
 
 abbrev Inv-loop : tie.InvT-loop
-Inv-loop q notes places offsets new-keys₀ new-places₀ new-counts₀ u₀ t₀ new-keys new-places new-counts u t =
-    Grouping q notes places offsets new-keys₀ new-places₀ new-counts₀ t u new-keys new-places new-counts
+Inv-loop kind q notes places offsets new-keys₀ new-places₀ new-counts₀ u₀ t₀ new-keys new-places new-counts u t =
+    Grouping (kindOf kind) q notes places offsets new-keys₀ new-places₀ new-counts₀ t u new-keys new-places new-counts
 
 abbrev μ-loop : tie.MeasureT-loop
-μ-loop q notes places offsets new-keys₀ new-places₀ new-counts₀ u₀ t₀ new-keys new-places new-counts u t = q - t
+μ-loop kind q notes places offsets new-keys₀ new-places₀ new-counts₀ u₀ t₀ new-keys new-places new-counts u t = q - t
 
 loop-holds : tie.Need-loop-holds Inv-loop μ-loop
 loop-holds c = grouping-none (c .before .before .before .before .before .before .pre)

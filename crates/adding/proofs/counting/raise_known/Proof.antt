@@ -2,15 +2,16 @@
 use Prim.Native.Nat.{_-_}
 use native.Mathlib.Omega.{arith}
 use Rattle.adding.proofs.Raising.{Raising, raising-none, counter-now, raising-known, raising-new, raising-all}
+use Rattle.state.specs.Says.{kindOf}
 use borrow.Author.Needs.{needs}
 use Rattle.adding.proofs.counting.raise_known.Statement.{statement}
 use Rattle.adding.proofs.counting.raise_known.Tie as tie
 
 abbrev Inv-loop : tie.InvT-loop
-Inv-loop m notes places counts₀ o₀ counts o = Raising m notes places counts₀ o counts
+Inv-loop kind m notes places counts₀ o₀ counts o = Raising (kindOf kind) m notes places counts₀ o counts
 
 abbrev μ-loop : tie.MeasureT-loop
-μ-loop m notes places counts₀ o₀ counts o = m - o
+μ-loop kind m notes places counts₀ o₀ counts o = m - o
 
 loop-holds : tie.Need-loop-holds Inv-loop μ-loop
 loop-holds c = raising-none

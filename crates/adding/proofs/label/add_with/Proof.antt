@@ -61,7 +61,7 @@ raise-known-requires : tie.Need-raise-known-requires
 raise-known-requires c κs =
     let made = c .before .before .before .before .before .before .before .before .before .before .before .before .before .before .before .before .before .before .before in
     let y = made .before .before .before .before .before .before .before .before .before .before .before .before .before .before .before .before .before .pre in
-    let long = made .make-vertices .kept .1 .1 .1 .1 .1 in
+    let long = made .make-vertices .kept .1 .1 .1 .1 .1 .1 in
     known (y .addable) (made .make-vertices .ensures .0) (omega (arith, y .addable .given .long))
     (omega (arith, y .room-notes, long .0)) (omega (arith, y .room-places, long .1 .0))
 
@@ -73,7 +73,7 @@ returns-2 c =
     let made = tried .before .before .before .before .before .before .before .before .before .before .before .before .before .before .before .before in
     let s = made .before .before .before .before .before .before .before .before .before .before .before .before .before .before .before .before .before in
     let y = s .pre .addable in
-    let long = made .make-vertices .kept .1 .1 .1 .1 .1 .1 .1 .1 .1 in
+    let long = made .make-vertices .kept .1 .1 .1 .1 .1 .1 .1 .1 .1 .1 in
     let all : length (s .args .label .now) - s .args .k + 1 ≡ windows (s .args .k) (s .args .label .now) = omega (arith, y .given .long) in
     adds-joined y (made .make-vertices .ensures .1) (omega (arith, tried .before .capacity .ensures, tried .if1 .left))
     (omega (arith, s .pre .room-new-places, long .0)) (omega (arith, s .pre .room-new-counts, long .1 .0)) all

@@ -3,6 +3,7 @@ use mathlib.Core.Path.{refl, _∙_}
 use Prim.Native.Nat.{_-_}
 use native.Mathlib.Omega.{arith}
 use borrow.Author.Tests.{ltb-true}
+use Rattle.state.specs.Says.{kindOf}
 use borrow.Author.Needs.{needs}
 use Rattle.adding.specs.Says.{ruleOf}
 use Rattle.adding.proofs.OneByOne.{SomeAdded, refused, added-none, added-all, entry-there, entry-inside, added-more, added-ends}
@@ -10,28 +11,28 @@ use Rattle.adding.proofs.several.add_each.Statement.{statement}
 use Rattle.adding.proofs.several.add_each.Tie as tie
 
 abbrev Inv-loop : tie.InvT-loop
-Inv-loop mode k n keys₀ counts₀ text starts lengths count edges₀ stored₀ i₀ keys counts edges stored i =
-    SomeAdded (ruleOf mode) k n keys₀ counts₀ text starts lengths count i edges stored keys counts
+Inv-loop kind mode k n keys₀ counts₀ text starts lengths count edges₀ stored₀ i₀ keys counts edges stored i =
+    SomeAdded (kindOf kind) (ruleOf mode) k n keys₀ counts₀ text starts lengths count i edges stored keys counts
 
 abbrev μ-loop : tie.MeasureT-loop
-μ-loop mode k n keys₀ counts₀ text starts lengths count edges₀ stored₀ i₀ keys counts edges stored i = count - i
+μ-loop kind mode k n keys₀ counts₀ text starts lengths count edges₀ stored₀ i₀ keys counts edges stored i = count - i
 
 loop-again : tie.Need-loop-again Inv-loop μ-loop
 loop-again c =
     let tried = c .before .before .before .before .before .before .before in
     let turn = tried .before .before .before .before .before .before in
     added-more (turn .before .loop .inv) (turn .loop-test .taken) refl refl (tried .add-next .ensures) _ _ (c .before .answer .given .1)
-    (tried .add-next .kept .1 .1 .1 .1 .0) (tried .add-next .kept .1 .1 .1 .1 .1 .0)
+    (tried .add-next .kept .1 .1 .1 .1 .1 .0) (tried .add-next .kept .1 .1 .1 .1 .1 .1 .0)
 
 same-length : tie.Need-same-length Inv-loop μ-loop
 same-length c =
     let tried = c .before .before .before .before .before in
-    tried .add-next .kept .1 .1 .1 .1 .0 ∙ tried .before .before .before .before .before .before .before .loop .inv .long-keys
+    tried .add-next .kept .1 .1 .1 .1 .1 .0 ∙ tried .before .before .before .before .before .before .before .loop .inv .long-keys
 
 same-length-2 : tie.Need-same-length-2 Inv-loop μ-loop
 same-length-2 c =
     let tried = c .before .before .before .before .before in
-    tried .add-next .kept .1 .1 .1 .1 .1 .0 ∙ tried .before .before .before .before .before .before .before .loop .inv .long-counts
+    tried .add-next .kept .1 .1 .1 .1 .1 .1 .0 ∙ tried .before .before .before .before .before .before .before .loop .inv .long-counts
 
 returns : tie.Need-returns Inv-loop μ-loop
 returns c =

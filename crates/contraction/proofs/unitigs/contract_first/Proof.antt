@@ -2,6 +2,7 @@
 use mathlib.Core.Path.{sym}
 use lib.Seq.{length-take-le}
 use Rattle.contraction.proofs.Firsts.{first-marks}
+use Rattle.state.specs.Says.{kindOf}
 use borrow.Author.Needs.{needs}
 use Rattle.contraction.proofs.unitigs.contract_first.Statement.{statement}
 use Rattle.contraction.proofs.unitigs.contract_first.Tie as tie
@@ -16,7 +17,7 @@ returns c =
     let done = c .before .before .before .before .before .before .before .before in
     let s = done .before .before .before .before .before .before .before .before .before .before .before in
     let a = s .args in
-    first-marks (a .k) (a .cutoff) (a .n) (a .keys .now) (a .counts .now) (a .labels .now) (a .starts .now) (a .lengths .now)
+    first-marks (kindOf (a .kind)) (a .k) (a .cutoff) (a .n) (a .keys .now) (a .counts .now) (a .labels .now) (a .starts .now) (a .lengths .now)
     (a .marks .now) (s .pre .0) (s .pre .1) (done .contract-fit .ensures)
 
 pub contract-first-spec : {M : Type 1} → statement M

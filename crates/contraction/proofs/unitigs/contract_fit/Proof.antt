@@ -6,6 +6,7 @@ use native.Mathlib.Omega.{arith}
 use lib.ListN.{length-replicate}
 use Rattle.contraction.proofs.Digested.{ready, clean}
 use Rattle.contraction.proofs.Finishing.{missing-vertex, no-room, writable, contracted}
+use Rattle.state.specs.Says.{kindOf}
 use borrow.Author.Needs.{needs}
 use Rattle.contraction.proofs.unitigs.contract_fit.Statement.{statement}
 use Rattle.contraction.proofs.unitigs.contract_fit.Tie as tie
@@ -15,9 +16,9 @@ survey-requires c κs =
     let d = c .before .before .before .before in
     let s = d .before .before .before .before .before .before .before .before in
     let a = s .args in
-    let r = ready (a .k) (a .cutoff) (a .keys .now) (a .counts .now) (a .marks .now) (s .pre) (d .digest .ensures) in (
+    let r = ready (kindOf (a .kind)) (a .k) (a .cutoff) (a .keys .now) (a .counts .now) (a .marks .now) (s .pre) (d .digest .ensures) in (
       r,
-      clean (a .k) (a .cutoff) (a .keys .now) (a .counts .now) (a .marks .now) (s .pre) (d .digest .ensures),
+      clean (kindOf (a .kind)) (a .k) (a .cutoff) (a .keys .now) (a .counts .now) (a .marks .now) (s .pre) (d .digest .ensures),
       omega (arith, r .few, length-replicate {A = ℕ} 131072 0),
     )
 
@@ -29,9 +30,9 @@ returns c =
     let d = v .before .before .before .before .before in
     let s = d .before .before .before .before .before .before .before .before in
     let a = s .args in
-    missing-vertex (a .k) (a .cutoff) (a .keys .now) (a .counts .now) (a .labels .now) (a .starts .now) (a .lengths .now) (a .marks .now)
+    missing-vertex (kindOf (a .kind)) (a .k) (a .cutoff) (a .keys .now) (a .counts .now) (a .labels .now) (a .starts .now) (a .lengths .now) (a .marks .now)
     (s .pre) (d .digest .ensures) (v .survey .ensures .0) (tried .if1 .taken) (cleared .clear .ensures)
-    (v .survey .kept .1 .1 .0 ∙ d .digest .kept .1 .1 .0)
+    (v .survey .kept .1 .1 .0 ∙ d .digest .kept .1 .1 .1 .0)
 
 returns-2 : tie.Need-returns-2
 returns-2 c =
@@ -41,10 +42,10 @@ returns-2 c =
     let d = v .before .before .before .before .before in
     let s = d .before .before .before .before .before .before .before .before in
     let a = s .args in
-    no-room (a .k) (a .cutoff) (a .keys .now) (a .counts .now) (a .labels .now) (a .starts .now) (a .lengths .now) (a .marks .now)
+    no-room (kindOf (a .kind)) (a .k) (a .cutoff) (a .keys .now) (a .counts .now) (a .labels .now) (a .starts .now) (a .lengths .now) (a .marks .now)
     (s .pre) (d .digest .ensures) (v .survey .ensures .0) (roomless .before .if1 .left)
     (roomless .lacks-room .ensures) (cleared .before .before .if2 .taken) (cleared .clear2 .ensures)
-    (v .survey .kept .1 .1 .0 ∙ d .digest .kept .1 .1 .0)
+    (v .survey .kept .1 .1 .0 ∙ d .digest .kept .1 .1 .1 .0)
 
 write-list-requires : tie.Need-write-list-requires
 write-list-requires c κs =
@@ -53,7 +54,7 @@ write-list-requires c κs =
     let d = v .before .before .before .before .before in
     let s = d .before .before .before .before .before .before .before .before in
     let a = s .args in
-    writable (a .k) (a .cutoff) (a .keys .now) (a .counts .now) (a .labels .now) (a .starts .now) (a .lengths .now) (a .marks .now)
+    writable (kindOf (a .kind)) (a .k) (a .cutoff) (a .keys .now) (a .counts .now) (a .labels .now) (a .starts .now) (a .lengths .now) (a .marks .now)
     (s .pre) (d .digest .ensures) (v .survey .ensures .0) (roomy .before .if1 .left)
     (roomy .lacks-room .ensures) (c .before .before .before .before .before .if2 .left)
     _ (omega (arith, length-replicate {A = ℕ} 131072 0)) (v .survey .ensures .1)
@@ -67,10 +68,10 @@ returns-3 c =
     let d = v .before .before .before .before .before in
     let s = d .before .before .before .before .before .before .before .before in
     let a = s .args in
-    contracted (a .k) (a .cutoff) (a .keys .now) (a .counts .now) (a .labels .now) (a .starts .now) (a .lengths .now) (a .marks .now)
+    contracted (kindOf (a .kind)) (a .k) (a .cutoff) (a .keys .now) (a .counts .now) (a .labels .now) (a .starts .now) (a .lengths .now) (a .marks .now)
     (s .pre) (d .digest .ensures) (v .survey .ensures .0) (roomy .before .if1 .left)
     (roomy .lacks-room .ensures) (fits .if2 .left) (w .write-list .ensures)
-    (w .write-list .kept .1 .1 .0 ∙ v .survey .kept .1 .1 .0 ∙ d .digest .kept .1 .1 .0)
+    (w .write-list .kept .1 .1 .0 ∙ v .survey .kept .1 .1 .0 ∙ d .digest .kept .1 .1 .1 .0)
 
 pub contract-fit-spec : {M : Type 1} → statement M
 contract-fit-spec =

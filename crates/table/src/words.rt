@@ -1,0 +1,43 @@
+// Whether the words of a table have no bit outside those of their kind.
+ghost use mathlib.Core.Path.{_≡_};
+ghost use Prim.Native.Nat.{_≤_};
+ghost use lib.ListN.{length, take};
+ghost use Rattle.state.specs.Counted.{presence, wordFits};
+ghost use Rattle.state.specs.Says.{kindOf};
+ghost use Rattle.graph.specs.Table.{wordsFit};
+use state::EdgeKind;
+
+// Presence bits stand at bits 3 to 10.
+fn is_presence(word: u32) -> bool
+    ensures { λ r. ⌜ r ≡ wordFits presence word ⌝ }
+{
+    if word % 8 != 0 {
+        return false;
+    }
+    word < 2048
+}
+
+fn all_presence(n: usize, counts: &[u32]) -> bool
+    requires { ⌜ n ≤ length (now counts) ⌝ }
+    ensures { λ r. ⌜ r ≡ wordsFit presence (take n (now (counts .entry))) ⌝ }
+{
+    let mut i = 0;
+    while i < n {
+        if !is_presence(counts[i]) {
+            return false;
+        }
+        i += 1;
+    }
+    true
+}
+
+// Counters fill their word: each is fit.
+pub(crate) fn words_fit(kind: EdgeKind, n: usize, counts: &[u32]) -> bool
+    requires { ⌜ n ≤ length (now counts) ⌝ }
+    ensures { λ r. ⌜ r ≡ wordsFit (kindOf kind) (take n (now (counts .entry))) ⌝ }
+{
+    match kind {
+        EdgeKind::Counted => true,
+        EdgeKind::Presence => all_presence(n, counts),
+    }
+}
