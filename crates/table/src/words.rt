@@ -17,18 +17,18 @@ fn is_presence(word: u32) -> bool
     word < 2048
 }
 
-fn all_presence(n: usize, counts: &[u32]) -> bool
+// The bits of the first n words put together. No word ends the loop, so that the compiler can take several at a time.
+fn bits_of(n: usize, counts: &[u32]) -> u32
     requires { ⌜ n ≤ length (now counts) ⌝ }
-    ensures { λ r. ⌜ r ≡ wordsFit presence (take n (now (counts .entry))) ⌝ }
+    ensures { λ r. ⌜ wordFits presence r ≡ wordsFit presence (take n (now (counts .entry))) ⌝ }
 {
+    let mut bits = 0;
     let mut i = 0;
     while i < n {
-        if !is_presence(counts[i]) {
-            return false;
-        }
+        bits = bits | counts[i];
         i += 1;
     }
-    true
+    bits
 }
 
 // Counters fill their word: each is fit.
@@ -38,6 +38,6 @@ pub(crate) fn words_fit(kind: EdgeKind, n: usize, counts: &[u32]) -> bool
 {
     match kind {
         EdgeKind::Counted => true,
-        EdgeKind::Presence => all_presence(n, counts),
+        EdgeKind::Presence => is_presence(bits_of(n, counts)),
     }
 }

@@ -1,5 +1,5 @@
 -- Counters fill their word; presence bits are tested. Assumes nothing.
-use mathlib.Core.Path.{sym}
+use mathlib.Core.Path.{sym, _∙_}
 use borrow.Author.Needs.{needs}
 use Rattle.state.specs.Counted.{fourBits}
 use Rattle.table.proofs.Presence.{words-all, four-fits}
@@ -14,7 +14,7 @@ returns c =
     (sym (words-all fourBits (s .args .n) (s .args .counts .now) (s .pre) (λ i b. four-fits _ (known i .fits))))
 
 returns-2 : tie.Need-returns-2
-returns-2 c = rw (c .before .enum-told2 .given .1) (c .all-presence .ensures)
+returns-2 c = rw (c .before .before .enum-told2 .given .1) (c .is-presence .ensures ∙ c .before .bits-of .ensures)
 
 pub words-fit-spec : {M : Type 1} → statement M
-words-fit-spec = tie.close (tie.spec (λ c. search needs) (λ c. search needs) (λ c κs. search needs) returns returns-2)
+words-fit-spec = tie.close (tie.spec (λ c. search needs) (λ c. search needs) (λ c κs. search needs) (λ c κs. search needs) returns returns-2)
