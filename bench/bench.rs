@@ -1,7 +1,8 @@
-// bench VERTICES [KIND]: times this library and the Rust original side by side, in one process, on the same labels, and prints the ratio of their times:
+// bench VERTICES [KIND [judging]]: times this library and the Rust original side by side, in one process, on the same labels, and prints the ratio of times:
 // below 1 this library is faster. Lent buffers are made and filled with ones before the clock starts. Each time is the least of several runs. The lists
 // are compared byte by byte. KIND is that of the library's tables: 0, as where none is given, counts; 1 presence bits, with the cases of cutoff 1 alone.
 // The original's graph is its counted one for both. A process times one kind, since of two the one that runs more often would read faster.
+// With a third word it times instead how long judging a contraction's list takes beside that contraction, which the original has not.
 use crate::cases::{turned, Dice};
 use crate::library::*;
 use crate::uncolored::Graph;
@@ -131,8 +132,8 @@ fn grown(c: &Case) -> (Table, f64) {
     (Table { keys, counts, n }, added.as_nanos() as f64)
 }
 
-// The nanoseconds of adding all labels by one call, which has to come to the same table.
-fn grown_at_once(c: &Case, t: &Table) -> f64 {
+// The table of a case by one call for all labels, and the nanoseconds of adding.
+fn grown_by_one_call(c: &Case) -> (Table, f64) {
     let (mut keys, mut counts, mut totals) = (vec![1u64; 2 * c.n], vec![1u32; c.n], [0u64; 2]);
     let text = c.labels.concat();
     let lengths: Vec<u32> = c.labels.iter().map(|l| l.len() as u32).collect();
@@ -145,9 +146,15 @@ fn grown_at_once(c: &Case, t: &Table) -> f64 {
         )
     };
     let added = begin.elapsed();
-    assert_eq!((r, totals), (0, [c.labels.len() as u64, t.n as u64]));
-    assert!(keys == t.keys && counts == t.counts, "the tables differ: K {}, {}, {}", c.k, c.n, c.name);
-    added.as_nanos() as f64
+    assert_eq!((r, totals[0]), (0, c.labels.len() as u64));
+    (Table { keys, counts, n: totals[1] as usize }, added.as_nanos() as f64)
+}
+
+// The nanoseconds of adding all labels by one call, which has to come to the same table.
+fn grown_at_once(c: &Case, t: &Table) -> f64 {
+    let (table, added) = grown_by_one_call(c);
+    assert!(table.n == t.n && table.keys == t.keys && table.counts == t.counts, "the tables differ: K {}, {}, {}", c.k, c.n, c.name);
+    added
 }
 
 // Nanoseconds of contraction, and the FASTA.
@@ -225,11 +232,53 @@ impl Row {
     }
 }
 
+// Nanoseconds of judging a list that gets yes.
+fn judged(c: &Case, t: &Table, fasta: &[u8]) -> f64 {
+    let (mut marks, mut figures) = (vec![1u8; t.n], [1u64; 2]);
+    let begin = Instant::now();
+    let r = unsafe {
+        lash_judge(
+            c.kind, c.k, c.cutoff, t.n, t.keys.as_ptr(), t.keys.len(), t.counts.as_ptr(), t.counts.len(), fasta.as_ptr(), fasta.len(),
+            marks.as_mut_ptr(), marks.len(), figures.as_mut_ptr(), 2,
+        )
+    };
+    let took = begin.elapsed();
+    assert_eq!((r, figures), (0, [0, 0]));
+    took.as_nanos() as f64
+}
+
+// For each case the least times of contraction and of judging its list, in turn.
+fn print_judging(all: impl Iterator<Item = Case>) {
+    let mut rows: Vec<(Case, Table, f64, f64)> = vec![];
+    for case in all {
+        let (table, _) = grown_by_one_call(&case);
+        rows.push((case, table, f64::MAX, f64::MAX));
+    }
+    for _ in 0..ROUNDS {
+        for (case, table, contraction, judging) in &mut rows {
+            for _ in 0..TURNS {
+                let (took, fasta) = contracted(case, table);
+                *contraction = contraction.min(took);
+                *judging = judging.min(judged(case, table, &fasta));
+            }
+        }
+    }
+    println!("| K | vertices | labels | judging / contraction | contraction, judging: ns a vertex |");
+    println!("|---|---|---|---|---|");
+    for (c, t, contraction, judging) in &rows {
+        let [each, other] = [contraction, judging].map(|took| took / t.n as f64);
+        println!("| {} | {} | {} | {:.2} | {each:.0}, {other:.0} |", c.k, c.n, c.name, judging / contraction);
+    }
+}
+
 pub fn main() {
     let most: usize = std::env::args().nth(1).and_then(|s| s.parse().ok()).unwrap_or(65536);
     let kind: u32 = std::env::args().nth(2).map_or(0, |s| s.parse().unwrap());
     let sizes = [1024, 16384, 65536].into_iter().filter(|n| *n <= most);
     let all = sizes.flat_map(|n| [15, 31, 33, 63].into_iter().flat_map(move |k| cases(kind, k, n)));
+    if std::env::args().nth(3).is_some() {
+        return print_judging(all);
+    }
     let mut rows: Vec<Row> = all.map(|case| Row { case, table: None, least: None }).collect();
     for _ in 0..ROUNDS {
         for row in &mut rows {

@@ -160,6 +160,104 @@ static void presence_bits(void) {
     same_bytes("their lengths", bit_lengths, (const uint32_t[]){3, 3}, 2 * sizeof bit_lengths[0]);
 }
 
+/* A table of up to four vertices. */
+struct table {
+    uint32_t kind;
+    size_t n;
+    uint64_t keys[8];
+    uint32_t words[4];
+};
+
+/* What a judgement is lent beside a table and a text. */
+static uint8_t judged_marks[5];
+static uint64_t judged_figures[3];
+
+static uint32_t judge(const struct table *t, size_t k, uint32_t cutoff, const char *text, size_t marks_len, size_t figures_len) {
+    memset(judged_marks, UNTOUCHED, sizeof judged_marks);
+    for (size_t i = 0; i < LEN(judged_figures); i++) judged_figures[i] = UNTOUCHED;
+    return lash_judge(t->kind, k, cutoff, t->n, t->keys, LEN(t->keys), t->words, LEN(t->words), (const uint8_t *)text, strlen(text),
+                      judged_marks, marks_len, judged_figures, figures_len);
+}
+
+/* At K = 3 the verdict is that rule and label, 0 and 0 for yes; the marks of the vertices are cleared and no others. */
+static void gets(const char *what, const struct table *t, uint32_t cutoff, const char *text, uint64_t rule, uint64_t label) {
+    uint8_t marks[sizeof judged_marks];
+    memset(marks, UNTOUCHED, sizeof marks);
+    memset(marks, 0, t->n);
+    same(what, judge(t, 3, cutoff, text, LEN(judged_marks), LEN(judged_figures)), 0);
+    same("its rule", judged_figures[0], rule);
+    same("its label", judged_figures[1], label);
+    same("the cell past the label", judged_figures[2], UNTOUCHED);
+    same_bytes("the marks after a verdict", judged_marks, marks, sizeof marks);
+}
+
+/* It is refused, and nothing lent is touched; refusal 1 notes its K. */
+static void not_judged(const char *what, const struct table *t, size_t k, uint32_t cutoff, const char *text, size_t marks_len,
+                       uint32_t wanted) {
+    uint8_t untouched[sizeof judged_marks];
+    memset(untouched, UNTOUCHED, sizeof untouched);
+    same(what, judge(t, k, cutoff, text, marks_len, LEN(judged_figures)), wanted);
+    same_bytes("a refused judgement's marks", judged_marks, untouched, sizeof untouched);
+    same("the first figure of a refused judgement", judged_figures[0], wanted == 1 ? k : UNTOUCHED);
+    same("its second figure", judged_figures[1], UNTOUCHED);
+}
+
+/* Q-4 of document 02: P1's table of both kinds, that of ACGG, one in which CCG leads on to GCC and to GGA, and P7's cycle. */
+static void judging(void) {
+    const struct table counted = {0, 2, {5, 0, 21, 0}, {0x00100000, 0x00100001}};
+    const struct table present = {7, 2, {5, 0, 21, 0}, {0x100, 0x108}};
+    const struct table stray = {1, 2, {5, 0, 21, 0}, {0x100, 0x908}};
+    const struct table falling = {0, 2, {21, 0, 5, 0}, {0x00100001, 0x00100000}};
+    const struct table acgg = {0, 2, {6, 0, 22, 0}, {0x01000000, 0x10000000}};
+    const struct table forked = {0, 4, {6, 0, 22, 0, 37, 0, 40, 0}, {0x02000000, 0x20001100, 0x01000000, 0x00000010}};
+    const struct table *both[] = {&counted, &present};
+    for (size_t i = 0; i < LEN(both); i++) {
+        const struct table *t = both[i];
+        gets("judging ACCC", t, 1, ">0\nACCC\n", 0, 0);
+        gets("judging ACC and CCC, which is of one base", t, 1, ">\nACC\n>any text\r\nCCC\n", 0, 0);
+        gets("judging the empty list", t, 1, "", 2, 0);
+        gets("judging ACC alone", t, 1, ">0\nACC\n", 2, 1);
+        gets("judging CCC before ACC", t, 1, ">0\nCCC\n>0\nACC\n", 1, 1);
+        gets("judging the other strand", t, 1, ">0\nGGGT\n", 1, 0);
+        gets("judging ACCC twice", t, 1, ">0\nACCC\n>0\nACCC\n", 1, 1);
+        gets("judging ACCCC", t, 1, ">0\nACCCC\n", 2, 0);
+        gets("judging a k-mer that is not stored", t, 1, ">0\nACCC\n>0\nCAC\n", 2, 1);
+        not_judged("judging at K = 64", t, 64, 2, "A", 1, 1);
+        not_judged("judging at K = 0", t, 0, 1, "", LEN(judged_marks), 1);
+        not_judged("judging with one mark", t, 3, 1, ">0\nACCC\n", 1, 7);
+        not_judged("judging at K = 4 with one mark", t, 4, 1, "A", 1, 7);
+        not_judged("judging at K = 4", t, 4, 1, "A", LEN(judged_marks), 16);
+        not_judged("judging a list without its last newline", t, 3, 1, ">0\nACCC", LEN(judged_marks), 17);
+        not_judged("judging an empty line", t, 3, 1, ">0\nACCC\n\n", LEN(judged_marks), 17);
+        not_judged("judging small letters", t, 3, 1, ">0\nAcCC\n", LEN(judged_marks), 17);
+        not_judged("judging the other line ending", t, 3, 1, ">0\r\nACCC\r\n", LEN(judged_marks), 17);
+        not_judged("judging a label of two letters", t, 3, 1, ">0\nAC\n", LEN(judged_marks), 17);
+        not_judged("judging a label without a header", t, 3, 1, "ACCC\n", LEN(judged_marks), 17);
+    }
+    gets("judging at cutoff 2 the empty list", &counted, 2, "", 0, 0);
+    gets("judging at cutoff 2 a k-mer that is isolated", &counted, 2, ">0\nACC\n", 2, 0);
+    gets("judging at cutoff 0", &counted, 0, ">0\nACC\n>0\nCCC\n", 0, 0);
+    not_judged("judging presence bits at cutoff 2 with one mark", &present, 3, 2, "A", 1, 15);
+    not_judged("judging a stray bit at cutoff 2", &stray, 3, 2, "A", 1, 5);
+    not_judged("judging keys out of order", &falling, 4, 1, "A", 1, 5);
+    gets("judging ACGG", &acgg, 1, ">0\nACGG\n", 0, 0);
+    gets("judging ACG and CCG", &acgg, 1, ">0\nACG\n>0\nCCG\n", 4, 0);
+    gets("judging ACGG, GCC and GGA", &forked, 1, ">0\nACGG\n>0\nGCC\n>0\nGGA\n", 0, 0);
+    gets("judging ACGGA and GCC", &forked, 1, ">0\nACGGA\n>0\nGCC\n", 3, 0);
+    same("judging with room for one figure", judge(&forked, 3, 1, ">0\nACGGA\n>0\nGCC\n", 4, 1), 0);
+    same("its rule", judged_figures[0], 3);
+    same("the cell past it", judged_figures[1], UNTOUCHED);
+
+    const uint8_t atcatc[] = {'A', 'T', 'C', 'A', 'T', 'C'};
+    struct table cycle = {0, 0, {0}, {0}};
+    same("adding ATCATC", lash_add_label(0, 1, 3, 0, cycle.keys, 8, cycle.words, 4, atcatc, LEN(atcatc), judged_figures, 2), 0);
+    cycle.n = judged_figures[1];
+    gets("judging ATCAT", &cycle, 1, ">0\nATCAT\n", 0, 0);
+    gets("judging it begun elsewhere", &cycle, 1, ">0\nCATCA\n", 0, 0);
+    gets("judging it begun elsewhere on the other strand", &cycle, 1, ">0\nGATGA\n", 0, 0);
+    gets("judging it closed once more", &cycle, 1, ">0\nATCATC\n", 2, 0);
+}
+
 int main(void) {
     uint64_t keys[32], keys_before[32], figures[3];
     uint32_t counts[16], counts_before[16], starts[16], lengths[16];
@@ -302,6 +400,7 @@ int main(void) {
     same("the cell past it", figures[1], UNTOUCHED);
 
     presence_bits();
+    judging();
 
     if (differences == 0) printf("check: ok\n");
     return differences != 0;

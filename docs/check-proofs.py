@@ -24,7 +24,7 @@ def public_functions():
 
 
 edits = {os.path.basename(path)[:-5] for path in glob.glob(os.path.join(root, "crates", "*", "must-fail", "*.edit"))}
-named, covered = set(), {"read_input"}
+named, covered = set(), {"read_input", "read_from"}
 wrong_programs = False
 for line in open(os.path.join(root, "docs", "PROOFS.md"), encoding="utf-8"):
     if line.startswith("## "):

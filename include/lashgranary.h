@@ -10,7 +10,8 @@
  * none is named. A refusal changes no other lent memory, except that 8 and 9 set the first n marks to 0, and that
  * lash_add_labels writes its totals and keeps the labels that it added before.
  *
- * The calls keep local arrays on the stack, adding up to 153 KiB and contraction 193 KiB: a stack of 256 KiB is enough.
+ * The calls keep local arrays on the stack, adding up to 153 KiB, contraction 193 KiB and judging 65 KiB: a stack of 256 KiB is
+ * enough.
  *
  * A table of n vertices is keys, two words a vertex, low word first, and counts, one word a vertex. The kind says what such a
  * word keeps of the edges to A, C, G and T. 0: four-bit counts, those in front from bit 0 on and those at the back from bit 16
@@ -106,6 +107,33 @@ uint32_t lash_write_fasta(const uint8_t *labels, size_t labels_len,
                           size_t count,
                           uint8_t *out, size_t out_len,
                           uint64_t *figures, size_t figures_len);
+
+/* Judges a list of labels, given as FASTA text, over a table of n vertices of that kind at a cutoff, for odd K. A record is ">",
+ * any bytes but a newline, a newline, a label of at least K letters A, C, G, T, and a newline; an empty text holds the empty list.
+ * The list passes if it keeps four rules: 1, its labels strictly ascend in byte order, none above its reverse complement; 2, every
+ * k-mer with a retained edge occurs exactly once in the labels, on either strand, and no other k-mer at all; 3, neighbouring k-mers
+ * of a label are joined by an edge that is the only retained one on its side at both ends; 4, no two different k-mers, neither of
+ * one repeated base, are so joined except as neighbours or as the two ends of one label. What lash_contract lists of a table that
+ * was grown by adding always passes; so does a cycle that begins elsewhere. At a k-mer of one repeated base rule 4 leaves the join
+ * free, so that two lists may pass that are not the same.
+ * After a verdict the first n marks are 0; their content before does not matter.
+ * Figures: 0 and 0 if the list passes; else the first broken rule, 1 to 4, and the lowest label concerned, from 0. Of rule 1 that is
+ * the later of two out of order, of rule 2 the one where a k-mer stands that may not or stands again, of rule 3 the one with the
+ * step, of rule 4 the lower of the two; where a k-mer is only missing (rule 2), the number of labels.
+ * Refusals, in the order in which they are tried:
+ *   1   K outside 1..63; figure: K
+ *   5   table not fit
+ *   15  presence bits, and the cutoff is not 1
+ *   7   marks shorter than n
+ *   16  K even
+ *   17  the text is no such list
+ */
+uint32_t lash_judge(uint32_t kind, size_t k, uint32_t cutoff, size_t n,
+                    const uint64_t *keys, size_t keys_len,
+                    const uint32_t *counts, size_t counts_len,
+                    const uint8_t *text, size_t text_len,
+                    uint8_t *marks, size_t marks_len,
+                    uint64_t *figures, size_t figures_len);
 
 #ifdef __cplusplus
 }

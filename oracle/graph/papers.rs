@@ -108,7 +108,7 @@ pub fn reverse_complement(text: &[u8]) -> Vec<u8> {
     text.iter().rev().map(|b| complement(*b)).collect()
 }
 
-fn canonical(text: &[u8]) -> Vec<u8> {
+pub fn canonical(text: &[u8]) -> Vec<u8> {
     text.to_vec().min(reverse_complement(text))
 }
 

@@ -12,9 +12,13 @@ use Rattle.adding.specs.declared.LabelsAnswer.the-variants as labels
 use Rattle.adding.specs.Says.{addAnswer, Adds, labelsSay, AddsLabels}
 use Rattle.contraction.specs.declared.ContractAnswer.{ContractAnswer}
 use Rattle.contraction.specs.Says.{contractAnswer, Contracts}
+use Rattle.rules.specs.Verdict.{Verdict}
+use Rattle.rules.specs.Judging.{Judgement}
+use Rattle.judging.specs.declared.JudgeAnswer.{JudgeAnswer}
+use Rattle.judging.specs.Answers.{judgeAnswer, Judges}
 use Rattle.fasta.specs.declared.FastaAnswer.{FastaAnswer}
 use Rattle.fasta.specs.Says.{fastaAnswer, Lists}
-use Rattle.capi.specs.Says.{numberOf, figures, noted, ofEdges, ofTotals, ofSize, Tells, AddsLabel, AddsSeveral, ContractsTable, WritesFasta}
+use Rattle.capi.specs.Says.{numberOf, figures, noted, ofEdges, ofTotals, ofSize, ofVerdict, Tells, AddsLabel, AddsSeveral, ContractsTable, WritesFasta, JudgesText}
 use Rattle.capi.proofs.Noting.{noted-none}
 
 -- Over the figures before and after; `case` is what an answer was found to be.
@@ -69,6 +73,14 @@ module _ {before after : List ℕ} where
     labels-after = d .labels-after;
     starts-after = d .starts-after;
     lengths-after = d .lengths-after;
+    marks-after = d .marks-after;
+  }
+
+  pub judges : {r : JudgeAnswer} {n : ℕ} {marks : List ℕ} {j : Judgement} → Judges r marks j → Tells ofVerdict (judgeAnswer r) n before after
+      → JudgesText n marks before after j
+  judges d t = record {
+    number = t .number ∙ ap numberOf (d .answer);
+    figures-after = t .figures-after ∙ ap (λ (x : Answer Verdict). noted (figures ofVerdict x) before) (d .answer);
     marks-after = d .marks-after;
   }
 

@@ -6,7 +6,8 @@ use Rattle.dna.specs.Answer.{Filled}
 use Rattle.graph.specs.Adding.{Added}
 use Rattle.graph.specs.Several.{Several}
 use Rattle.graph.specs.Contraction.{Contracted}
-use Rattle.capi.specs.Says.{AddsLabel, AddsSeveral, ContractsTable, WritesFasta}
+use Rattle.rules.specs.Judging.{Judgement}
+use Rattle.capi.specs.Says.{AddsLabel, AddsSeveral, ContractsTable, WritesFasta, JudgesText}
 
 -- Over the number and the figures of either, and the figures before.
 module _ {r s : ℕ} {figures₀ figures figures′ : List ℕ} where
@@ -48,3 +49,8 @@ module _ {r s : ℕ} {figures₀ figures figures′ : List ℕ} where
       → WritesFasta s out′ figures₀ figures′ f → (r ≡ s) × (figures ≡ figures′) × (out ≡ out′)
   writes-fasta-one t u =
       (t .number ∙ sym (u .number), t .figures-after ∙ sym (u .figures-after), t .out-after ∙ sym (u .out-after))
+
+  pub judges-text-one : {marks marks′ : List ℕ} {j : Judgement} → JudgesText r marks figures₀ figures j
+      → JudgesText s marks′ figures₀ figures′ j → (r ≡ s) × (figures ≡ figures′) × (marks ≡ marks′)
+  judges-text-one t u =
+      (t .number ∙ sym (u .number), t .figures-after ∙ sym (u .figures-after), t .marks-after ∙ sym (u .marks-after))

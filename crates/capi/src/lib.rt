@@ -7,14 +7,17 @@ ghost use Rattle.graph.specs.Adding.{addLabel};
 ghost use Rattle.graph.specs.Several.{addLabels};
 ghost use Rattle.graph.specs.Contraction.{contract};
 ghost use Rattle.graph.specs.Fasta.{fasta};
+ghost use Rattle.rules.specs.Judging.{judge};
 ghost use Rattle.adding.specs.Says.{addAnswer, ruleOf};
 ghost use Rattle.contraction.specs.Says.{contractAnswer};
-ghost use Rattle.capi.specs.Says.{edgeKindOf, modeOf, noted, ofEdges, ofTotals, Tells, AddsLabel, AddsSeveral, ContractsTable, WritesFasta};
+ghost use Rattle.judging.specs.Answers.{judgeAnswer};
+ghost use Rattle.capi.specs.Says.{edgeKindOf, modeOf, noted, ofEdges, ofTotals, ofVerdict, Tells, AddsLabel, AddsSeveral, ContractsTable, WritesFasta, JudgesText};
 use adding::AddAnswer;
 use adding::LabelsAnswer;
 use adding::Mode;
 use contraction::ContractAnswer;
 use fasta::FastaAnswer;
+use judging::JudgeAnswer;
 use state::EdgeKind;
 
 // One figure.
@@ -80,6 +83,31 @@ fn tell_contracted(answer: ContractAnswer, figures: &mut [u64]) -> u32
         ContractAnswer::MissingVertex => 8,
         ContractAnswer::NoRoom => 9,
         ContractAnswer::WrongCutoff => 15,
+    }
+}
+
+// The number and the figures of a judgement.
+fn tell_judged(answer: JudgeAnswer, figures: &mut [u64]) -> u32
+    ensures { λ r. ⌜ Tells ofVerdict (judgeAnswer answer) r (now (figures .entry)) (now (figures .exit)) ⌝ }
+{
+    match answer {
+        JudgeAnswer::Passes => {
+            note_two(0, 0, figures);
+            0
+        }
+        JudgeAnswer::Breaks { rule, label } => {
+            note_two(rule as u64, label as u64, figures);
+            0
+        }
+        JudgeAnswer::UnsupportedK(k) => {
+            note(k as u64, figures);
+            1
+        }
+        JudgeAnswer::Unfit => 5,
+        JudgeAnswer::WrongCutoff => 15,
+        JudgeAnswer::FewMarks => 7,
+        JudgeAnswer::EvenK => 16,
+        JudgeAnswer::NoList => 17,
     }
 }
 
@@ -227,4 +255,26 @@ pub extern "C" fn lash_write_fasta(
         FastaAnswer::NoRoom => 11,
         FastaAnswer::OutOfLabels => 12,
     }
+}
+
+// `judge`: figures are the first broken rule and the lowest label concerned, 0 and 0 where the list passes.
+#[no_mangle]
+pub extern "C" fn lash_judge(
+    kind: u32,
+    k: usize,
+    cutoff: u32,
+    n: usize,
+    keys: &[u64],
+    counts: &[u32],
+    text: &[u8],
+    marks: &mut [u8],
+    figures: &mut [u64],
+) -> u32
+    ensures { λ r. ⌜ JudgesText r (now (marks .exit)) (now (figures .entry)) (now (figures .exit)) (judge (kindOf (edgeKindOf kind)) k cutoff n (now (keys .entry)) (now (counts .entry)) (now (text .entry)) (now (marks .entry))) ⌝ }
+{
+    let words = kind_of(kind);
+    tell_judged(
+        judging::judge(words, k, cutoff, n, keys, counts, text, marks),
+        figures,
+    )
 }

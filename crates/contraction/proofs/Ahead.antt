@@ -10,7 +10,8 @@ use Rattle.graph.specs.Labels.{Run, extract}
 use Rattle.graph.specs.Contraction.{entries, endToEnd}
 use Rattle.table.specs.Search.{key}
 use Rattle.marks.specs.Marks.{ends}
-use Rattle.contraction.specs.Ready.{keysFor, runIn}
+use Rattle.marks.specs.Ready.{keysFor}
+use Rattle.contraction.specs.Over.{runIn}
 use Rattle.contraction.specs.Says.{WritesLabel, startsOf, lengthsOf}
 use Rattle.contraction.specs.Trail.{labelFrom}
 use Rattle.contraction.specs.declared.Written.{Written}

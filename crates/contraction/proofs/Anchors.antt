@@ -7,8 +7,8 @@ use lib.ListN.{length, getD}
 use Rattle.graph.proofs.Lookup.{key-at}
 use Rattle.table.specs.Search.{key}
 use Rattle.table.proofs.Keys.{key-is}
-use Rattle.contraction.specs.Ready.{Ready, keysFor}
-use Rattle.contraction.proofs.Still.{keys-marks}
+use Rattle.marks.specs.Ready.{keysFor, Ready}
+use Rattle.marks.proofs.Still.{keys-marks}
 
 module _ {K : ℕ} {keys ms : List ℕ} (r : Ready K keys ms) (a : ℕ) (l : a < length ms) where
   pub anchor-is : getD (keysFor ms keys) a 0 ≡ key keys a

@@ -19,7 +19,8 @@ use Rattle.table.specs.declared.Found.{Found}
 use Rattle.table.specs.declared.Found.the-variants.{At, Gap}
 use Rattle.table.proofs.Ranked.{find-rank}
 use Rattle.marks.specs.Marks.{ends, visits}
-use Rattle.contraction.specs.Ready.{keysFor, Ready, lookIn, arriveIn}
+use Rattle.marks.specs.Ready.{keysFor, Ready}
+use Rattle.contraction.specs.Over.{lookIn, arriveIn}
 
 -- The k-mer y, with where it is found.
 module _ {K : ℕ} {keys ms : List ℕ} (r : Ready K keys ms) (a : ℕ) (start : Side) (y : ℕ) {f : Found} (ended : f ≡ findIn (keysFor ms keys) y) where

@@ -15,14 +15,16 @@ use Rattle.graph.specs.Table.{keysOf, tableOf}
 use Rattle.graph.specs.Labels.{Run, run}
 use Rattle.graph.specs.Contraction.{entries, sorted, endToEnd, endsIn, written, finish}
 use Rattle.marks.specs.Marks.{markOf, visits}
-use Rattle.contraction.specs.Ready.{Ready, runIn}
-use Rattle.contraction.specs.Says.{Contracts, FitTable, Surveys, Roomy, Lists, finishIn}
+use Rattle.contraction.specs.Over.{runIn}
+use Rattle.contraction.specs.Says.{Contracts, Surveys, Roomy, Lists, finishIn}
 use Rattle.contraction.specs.Trail.{trailIn, Trails}
 use Rattle.contraction.specs.declared.ContractAnswer.the-variants as answers
 use Rattle.dna.proofs.Overwriting.{over-all}
-use Rattle.contraction.proofs.Digested.{ready, run-is}
+use Rattle.contraction.proofs.Digested.{run-is}
 use Rattle.marks.proofs.Marking.{ends-length}
-use Rattle.contraction.proofs.Still.{ready-still}
+use Rattle.marks.specs.Ready.{FitTable, Ready}
+use Rattle.marks.proofs.Made.{ready}
+use Rattle.marks.proofs.Still.{ready-still}
 use Rattle.contraction.proofs.Trailing.{run-same, trails-over}
 
 -- The marks are those that the table's words give, and all walks were followed over them.

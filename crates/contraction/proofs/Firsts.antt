@@ -13,7 +13,8 @@ use Rattle.graph.specs.Labels.{Run, run}
 use Rattle.graph.specs.Contraction.{Contracted, endToEnd, endsIn, written, finish}
 use Rattle.graph.proofs.Keys.{keys-length}
 use Rattle.laws.proofs.Runs.{run-toured}
-use Rattle.contraction.specs.Says.{Contracts, FitTable, finishIn}
+use Rattle.marks.specs.Ready.{FitTable}
+use Rattle.contraction.specs.Says.{Contracts, finishIn}
 use Rattle.contraction.specs.declared.ContractAnswer.{ContractAnswer}
 use Rattle.dna.proofs.Overwriting.{over-first}
 

@@ -17,12 +17,13 @@ use Rattle.graph.specs.Walks.{Ends, Walk, walk, closed, missing}
 use Rattle.graph.specs.Labels.{spelt, labelOf, extract}
 use Rattle.laws.proofs.Plain.{lesser-length}
 use Rattle.marks.specs.Marks.{ends}
-use Rattle.contraction.specs.Ready.{keysFor, walkIn, labelIn, Ready}
+use Rattle.contraction.specs.Over.{walkIn, labelIn}
 use Rattle.contraction.specs.Says.{Walks, Extracts}
 use Rattle.contraction.specs.Trail.{pieceIn}
 use Rattle.contraction.specs.declared.Extracted.{Extracted}
 use Rattle.contraction.specs.declared.Walked.{Walked}
 use Rattle.marks.proofs.Marking.{ends-length}
+use Rattle.marks.specs.Ready.{keysFor, Ready}
 use Rattle.contraction.proofs.Still.{walk-still}
 use Rattle.contraction.proofs.Placing.{Placed, placed-length}
 

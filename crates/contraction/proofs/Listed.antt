@@ -7,7 +7,8 @@ use lib.ListN.{length, getD}
 use Rattle.graph.specs.Labels.{run}
 use Rattle.graph.specs.Contraction.{entries, endToEnd}
 use Rattle.marks.specs.Marks.{ends}
-use Rattle.contraction.specs.Ready.{Ready, keysFor, runIn}
+use Rattle.marks.specs.Ready.{keysFor, Ready}
+use Rattle.contraction.specs.Over.{runIn}
 use Rattle.contraction.specs.Says.{Writes, Roomy}
 use Rattle.contraction.specs.Trail.{trailIn, Trails}
 use Rattle.contraction.proofs.Standing.{Standing, skips-here, place-skipped}

@@ -12,9 +12,10 @@ use Rattle.laws.proofs.Apart.{Apart, Apart.alone, Apart.beside, each-map}
 use Rattle.laws.proofs.Idle.{run-apart}
 use Rattle.laws.proofs.Listed.{entries-right}
 use Rattle.marks.specs.Marks.{ends, visits}
-use Rattle.contraction.specs.Ready.{keysFor, Ready, runIn}
+use Rattle.marks.specs.Ready.{keysFor, Ready}
+use Rattle.marks.proofs.Still.{keys-marks}
+use Rattle.contraction.specs.Over.{runIn}
 use Rattle.contraction.specs.Says.{Lists, Writes, Ordered}
-use Rattle.contraction.proofs.Still.{keys-marks}
 use Rattle.contraction.proofs.Appending.{length-entries}
 use Rattle.contraction.proofs.Indexing.{Reads, index-is}
 

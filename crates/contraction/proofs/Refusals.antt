@@ -1,24 +1,22 @@
 -- How contraction ends before a walk is followed: the refusals 1, 5, 15, 7, and what the rest may rely on. Assumes nothing.
-use mathlib.Core.Path.{_≡_, refl, ap, _∙_}
+use mathlib.Core.Path.{_≡_, refl}
 use mathlib.Core.Bool.{true, false}
 use mathlib.Core.List.{List}
 use Prim.Native.Nat.{ℕ, _≤_, _<_}
-use native.Mathlib.Omega.{arith}
-use lib.Dec.{leb}
 use lib.ListN.{length, take}
-use lib.Seq.{length-take-le}
 use borrow.Author.Tests.{lt-ltb, le-ltb}
-use Rattle.lemmas.proofs.Tests.{both}
 use Rattle.kmer.specs.Kmer.{okK}
 use Rattle.state.specs.Counted.{Kind, answersFor}
-use Rattle.graph.specs.Table.{keysOf, capacity, fitFrom, fit, fitFor}
+use Rattle.graph.specs.Table.{fit, fitFor}
 use Rattle.graph.specs.Contraction.{Contracted, contract}
-use Rattle.graph.proofs.Accepted.{fit-for-both, fit-room}
+use Rattle.graph.proofs.Accepted.{fit-for-both}
 use Rattle.table.specs.Calls.{fitAnswer, fitCall}
 use Rattle.table.specs.declared.FitAnswer.{FitAnswer}
 use Rattle.table.specs.declared.FitAnswer.the-variants.{Fit, Unfit, UnsupportedK}
 use Rattle.table.proofs.Told.{told-unsupported, told-unfit, told-fit}
-use Rattle.contraction.specs.Says.{contractAnswer, Contracts, FitTable, finishIn}
+use Rattle.marks.specs.Ready.{FitTable}
+use Rattle.marks.proofs.Made.{fit-first}
+use Rattle.contraction.specs.Says.{contractAnswer, Contracts, finishIn}
 use Rattle.contraction.specs.declared.ContractAnswer.{ContractAnswer}
 use Rattle.contraction.specs.declared.ContractAnswer.the-variants as answers
 
@@ -64,18 +62,8 @@ module _ (κ : Kind) (K cutoff n : ℕ) (keys counts labels starts lengths marks
     few-marks a h = rw (ok .0, ok .1, a, lt-ltb (length marks) n h) stays
 
     module _ (h : n ≤ length marks) where
-      pub fit-first : FitTable K keys counts (take n marks)
-      fit-first =
-          let l : length (take n marks) ≡ n = length-take-le n marks h in
-          let m = fit-room K n keys counts keys-ok in
-          record {
-            ok = ok .0;
-            room = omega arith;
-            counted = omega arith;
-            few = omega arith;
-            fits = ap (λ (z : ℕ). fitFrom K 0 (keysOf z keys)) l
-                ∙ both (leb n (capacity keys counts)) (fitFrom K 0 (keysOf n keys)) keys-ok .1;
-          }
+      pub lent-first : FitTable K keys counts (take n marks)
+      lent-first = fit-first K n keys counts marks (ok .0) keys-ok h
 
       pub goes-on : answersFor κ cutoff ≡ true → {z : ContractAnswer} {labels′ starts′ lengths′ marks′ : List ℕ}
           → Contracts z labels′ starts′ lengths′ marks′ (finishIn κ K cutoff n keys counts labels starts lengths marks)

@@ -25,11 +25,11 @@ use Rattle.table.specs.Search.{key}
 use Rattle.table.proofs.Keys.{key-is}
 use Rattle.laws.proofs.Sides.{complement-is}
 use Rattle.marks.specs.Marks.{ends}
-use Rattle.contraction.specs.Ready.{keysFor, Ready}
 use Rattle.contraction.specs.Says.{Both}
 use Rattle.contraction.specs.declared.Strands.{Strands}
 use Rattle.marks.proofs.Marking.{ends-length}
-use Rattle.contraction.proofs.Still.{keys-marks}
+use Rattle.marks.specs.Ready.{keysFor, Ready}
+use Rattle.marks.proofs.Still.{keys-marks}
 
 -- Vertex v as it is stored, and turned.
 module _ {K : ℕ} {keys ms : List ℕ} (r : Ready K keys ms) (v : ℕ) (h : v < length ms)

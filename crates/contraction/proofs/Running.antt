@@ -17,8 +17,9 @@ use Rattle.graph.specs.Labels.{Run, labelOf, extract, run}
 use Rattle.graph.specs.Contraction.{endToEnd}
 use Rattle.laws.proofs.Room.{run-room, total-snoc}
 use Rattle.marks.specs.Marks.{ends}
-use Rattle.contraction.specs.Ready.{Ready, keysFor, runIn}
-use Rattle.contraction.proofs.Still.{keys-marks}
+use Rattle.marks.specs.Ready.{keysFor, Ready}
+use Rattle.marks.proofs.Still.{keys-marks}
+use Rattle.contraction.specs.Over.{runIn}
 
 -- A run has no more labels than another, and no more bases.
 pub record NoMore (r r₂ : Run) : Type 0 where

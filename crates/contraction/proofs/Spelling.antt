@@ -8,7 +8,7 @@ use lib.Seq.{paste, paste-zero, paste-suc, length-paste}
 use Rattle.dna.specs.Letters.{letterOf}
 use Rattle.lemmas.proofs.Lists.{getD-map}
 use Rattle.state.specs.declared.Side.{Side}
-use Rattle.contraction.specs.Ready.{walkIn}
+use Rattle.contraction.specs.Over.{walkIn}
 use Rattle.contraction.specs.Says.{Walks, Spells}
 use Rattle.contraction.specs.declared.Walked.{Walked}
 

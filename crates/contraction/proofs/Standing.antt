@@ -13,7 +13,8 @@ use Rattle.state.specs.declared.Side.the-variants.{Front, Back}
 use Rattle.graph.specs.Walks.{Walk, walk, visited, isolated}
 use Rattle.table.specs.Search.{key}
 use Rattle.marks.specs.Marks.{ends}
-use Rattle.contraction.specs.Ready.{Ready, keysFor, runIn}
+use Rattle.marks.specs.Ready.{keysFor, Ready}
+use Rattle.contraction.specs.Over.{runIn}
 use Rattle.contraction.specs.Trail.{pieceOf, pieceFrom, trailIn, Trails, Piece, labelFrom, pieceLength}
 use Rattle.contraction.proofs.Anchors.{anchor-is, anchor-small}
 use Rattle.contraction.proofs.Pieces.{Begins, skips-byte, given-some, Told, told}

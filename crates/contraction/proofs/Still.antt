@@ -1,25 +1,14 @@
--- Marks that are ready: there is a key for each, and others with the same ends are as ready, and walked alike. Assumes nothing.
-use mathlib.Core.Path.{_≡_, _∙_}
+-- Marks with the same ends are walked alike. Assumes nothing.
+use mathlib.Core.Path.{_≡_}
 use mathlib.Core.List.{List}
 use Prim.Native.Nat.{ℕ}
-use native.Mathlib.Omega.{arith}
-use lib.ListN.{length}
 use Rattle.state.specs.declared.Side.{Side}
 use Rattle.graph.specs.Walks.{walk}
-use Rattle.graph.proofs.Keys.{keys-length}
 use Rattle.marks.specs.Marks.{ends, visits}
+use Rattle.marks.specs.Ready.{keysFor}
 use Rattle.marks.proofs.Marking.{ends-length}
-use Rattle.contraction.specs.Ready.{keysFor, walkIn, Ready}
-
-pub ready-still : {K : ℕ} {keys ms after : List ℕ} → Ready K keys ms → ends after ≡ ends ms → Ready K keys after
-ready-still {ms = ms} {after = after} r e =
-    let l = ends-length ms after e in
-    record { ok = r .ok; room = rw l (r .room); few = rw l (r .few); fits = rw l (r .fits); known = rw e (r .known) }
+use Rattle.contraction.specs.Over.{walkIn}
 
 pub walk-still : (ms after : List ℕ) → ends after ≡ ends ms → (K : ℕ) (keys : List ℕ) (a : ℕ) (start : Side)
     → walkIn K keys after a start ≡ walk K (keysFor ms keys) (ends ms) a start (visits after)
 walk-still ms after e K keys a start = rw (ends-length ms after e, e)
-
--- There is a key for each mark.
-pub keys-marks : {K : ℕ} {keys ms : List ℕ} → Ready K keys ms → length (keysFor ms keys) ≡ length ms
-keys-marks {keys = keys} {ms = ms} r = keys-length (length ms) keys ∙ omega (arith, r .room)

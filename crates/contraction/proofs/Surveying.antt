@@ -1,6 +1,6 @@
 -- All vertices, one after the other: what the label of each anchor adds to the run. Assumes nothing.
 use mathlib.Core.Path.{_≡_, refl, sym, ap, ap₂, _∙_}
-use mathlib.Core.Bool.{Bool, true, false, _||_, or-assoc}
+use mathlib.Core.Bool.{Bool, true, false, or-assoc, _||_}
 use mathlib.Core.List.{List, [], _∷_, _++_}
 use Prim.Native.Nat.{ℕ, _+_, _*_, _≤_, _<_}
 use native.Mathlib.Omega.{arith}
@@ -11,11 +11,12 @@ use Rattle.graph.specs.Labels.{Run, extract, run}
 use Rattle.graph.specs.Contraction.{endToEnd}
 use Rattle.laws.proofs.Room.{total-snoc}
 use Rattle.marks.specs.Marks.{ends, visits}
-use Rattle.contraction.specs.Ready.{keysFor, extractIn, labelIn, runIn, Ready}
-use Rattle.contraction.specs.Says.{Unvisited, Extracts, Surveys}
+use Rattle.contraction.specs.Over.{extractIn, labelIn, runIn}
+use Rattle.contraction.specs.Says.{Extracts, Surveys}
 use Rattle.contraction.specs.declared.Extracted.{Extracted}
 use Rattle.marks.proofs.Marking.{ends-length}
-use Rattle.contraction.proofs.Still.{keys-marks}
+use Rattle.marks.specs.Ready.{keysFor, Ready, Unvisited}
+use Rattle.marks.proofs.Still.{keys-marks}
 use Rattle.contraction.proofs.Running.{run-skips, run-takes}
 
 -- A run that has marks and nothing else.

@@ -10,13 +10,14 @@ use Rattle.dna.specs.Letters.{letterOf}
 use Rattle.state.specs.declared.Side.the-variants.{Front, Back}
 use Rattle.graph.specs.Walks.{Walk, walk, closed}
 use Rattle.marks.specs.Marks.{ends}
-use Rattle.contraction.specs.Ready.{Ready, keysFor, walkIn}
+use Rattle.contraction.specs.Over.{walkIn}
 use Rattle.contraction.specs.Says.{Spells}
 use Rattle.contraction.specs.Trail.{pieceIn}
 use Rattle.contraction.specs.declared.Walked.{Walked}
 use Rattle.contraction.proofs.Labelling.{front-is}
 use Rattle.marks.proofs.Marking.{ends-length}
-use Rattle.contraction.proofs.Still.{ready-still}
+use Rattle.marks.specs.Ready.{keysFor, Ready}
+use Rattle.marks.proofs.Still.{ready-still}
 use Rattle.contraction.proofs.Pieces.{closed-long, open-long}
 use Rattle.contraction.proofs.Placing.{Placed, placed-first, placed-length, placed-more, placed-one}
 

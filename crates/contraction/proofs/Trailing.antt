@@ -17,10 +17,11 @@ use Rattle.graph.specs.Labels.{Run, extract, run}
 use Rattle.laws.proofs.Fuel.{unseen, unseen-le}
 use Rattle.laws.proofs.Runs.{run-toured}
 use Rattle.marks.specs.Marks.{ends}
-use Rattle.contraction.specs.Ready.{Ready, keysFor, runIn}
+use Rattle.contraction.specs.Over.{runIn}
 use Rattle.contraction.specs.Trail.{pieceFrom, trailIn, Trails}
 use Rattle.marks.proofs.Marking.{ends-length}
-use Rattle.contraction.proofs.Still.{keys-marks}
+use Rattle.marks.specs.Ready.{keysFor, Ready}
+use Rattle.marks.proofs.Still.{keys-marks}
 use Rattle.contraction.proofs.Visiting.{piece-room}
 use Rattle.contraction.proofs.Pieces.{Begins}
 

@@ -16,10 +16,11 @@ use Rattle.laws.specs.Trails.{isNext}
 use Rattle.laws.proofs.Steps.{Came, came, came-lt, came-forward, came-base}
 use Rattle.laws.proofs.Fuel.{unseen-le, Went, walk-went}
 use Rattle.marks.specs.Marks.{ends, visits}
-use Rattle.contraction.specs.Ready.{keysFor, walkIn, Ready}
+use Rattle.contraction.specs.Over.{walkIn}
 use Rattle.contraction.specs.Says.{Advances, Walks}
 use Rattle.marks.proofs.Marking.{visits-length, ends-length}
-use Rattle.contraction.proofs.Still.{keys-marks}
+use Rattle.marks.specs.Ready.{keysFor, Ready}
+use Rattle.marks.proofs.Still.{keys-marks}
 use Rattle.contraction.proofs.Onward.{rest, went-on, went-ends}
 use Rattle.contraction.proofs.Visiting.{paced}
 

@@ -1,4 +1,4 @@
-pub mod Ready
+pub mod Over
 pub mod Trail
 pub mod Says
 pub mod Examples

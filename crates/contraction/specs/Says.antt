@@ -1,24 +1,24 @@
 -- What contraction answers in document 01's numbers, and what its parts say. Assumes nothing.
-use Prim.Native.Nat.{ℕ, _+_, _/_, _^_, _≤_, _<_}
+use Prim.Native.Nat.{ℕ, _+_, _^_, _≤_, _<_}
 use mathlib.Core.Path.{_≡_}
-use mathlib.Core.Bool.{Bool, true}
+use mathlib.Core.Bool.{Bool}
 use mathlib.Core.List.{List, [], _∷_, map}
 use lib.Seq.{paste}
-use lib.ListN.{length, set, drop, replicate}
+use lib.ListN.{length, set, drop}
 use Rattle.dna.specs.Text.{over}
 use Rattle.dna.specs.Answer.{Answer, gives, refuses}
 use Rattle.dna.specs.Letters.{letterOf}
-use Rattle.kmer.specs.Kmer.{okK, rc}
+use Rattle.kmer.specs.Kmer.{rc}
 use Rattle.kmer.specs.Says.{valueOf}
 use Rattle.sorting.specs.Index.{Spot, sortedSpots}
 use Rattle.state.specs.Counted.{Kind}
 use Rattle.state.specs.declared.Side.{Side}
 use Rattle.graph.specs.declared.Step.{Step}
-use Rattle.graph.specs.Table.{tableOf, fitFrom}
+use Rattle.graph.specs.Table.{tableOf}
 use Rattle.graph.specs.Labels.{Run, run}
 use Rattle.graph.specs.Contraction.{Entry, entries, endToEnd, endsIn, Totals, Contracted, finish}
 use Rattle.marks.specs.Marks.{ends, visits}
-use Rattle.contraction.specs.Ready.{keysFor, stepIn, walkIn, extractIn, labelIn, runIn}
+use Rattle.contraction.specs.Over.{stepIn, walkIn, extractIn, labelIn, runIn}
 use Rattle.contraction.specs.Trail.{pieceIn, labelFrom, pieceLength}
 use Rattle.contraction.specs.declared.Strands.{Strands}
 use Rattle.contraction.specs.declared.Walked.{Walked}
@@ -103,10 +103,6 @@ pub record WritesLabel (K x : ℕ) (trail : List ℕ) (from : ℕ) (r : Written)
   pub end : r .end ≡ from + pieceLength (drop from trail)
   pub letters : buffer′ ≡ paste buffer at (labelFrom K x (drop from trail)) (length (labelFrom K x (drop from trail)))
 
--- No vertex is visited.
-abbrev pub Unvisited : List ℕ → Type 0
-Unvisited ms = visits ms ≡ replicate (length ms) 0
-
 -- Starts and lengths of entries.
 abbrev pub startsOf : List Entry → List ℕ
 startsOf es = map (λ (e : Entry). e .start) es
@@ -130,14 +126,6 @@ pub record Writes (K : ℕ) (keys ms : List ℕ) (a labels at : ℕ) (buffer buf
 pub record Ordered (buffer starts lengths : List ℕ) (n : ℕ) (starts′ lengths′ : List ℕ) : Type 0 where
   pub starts-after : starts′ ≡ over (map (λ (p : Spot). p .start) (sortedSpots buffer n starts lengths)) starts
   pub lengths-after : lengths′ ≡ over (map (λ (p : Spot). p .length) (sortedSpots buffer n starts lengths)) lengths
-
--- A fit table with as many vertices as there are marks.
-pub record FitTable (K : ℕ) (keys counts ms : List ℕ) : Type 0 where
-  pub ok : okK K ≡ true
-  pub room : length ms ≤ length keys / 2
-  pub counted : length ms ≤ length counts
-  pub few : length ms ≤ 65536
-  pub fits : fitFrom K 0 (keysFor ms keys) ≡ true
 
 -- What is left to do once the table is known to be fit and to have marks.
 abbrev pub finishIn : Kind → ℕ → ℕ → ℕ → List ℕ → List ℕ → List ℕ → List ℕ → List ℕ → List ℕ → Contracted

@@ -11,7 +11,8 @@ use Rattle.state.specs.declared.Side.the-variants.{Front, Back}
 use Rattle.graph.specs.Walks.{Walk, walk, closed, visited, isolated}
 use Rattle.graph.specs.Labels.{lesser}
 use Rattle.marks.specs.Marks.{ends, visits}
-use Rattle.contraction.specs.Ready.{keysFor, runIn}
+use Rattle.marks.specs.Ready.{keysFor}
+use Rattle.contraction.specs.Over.{runIn}
 
 -- The letters of the Back walk with 1 behind them if it closed; else with 0 behind them, and then the letters of the Front walk
 -- with 0 behind them.

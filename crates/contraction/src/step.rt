@@ -6,8 +6,9 @@ ghost use lib.ListN.{length};
 ghost use Rattle.dna.specs.Calls.{codeIn};
 ghost use Rattle.kmer.specs.Kmer.{okK, forward};
 ghost use Rattle.kmer.specs.Says.{valueOf};
-ghost use Rattle.graph.specs.Walks.{leaving, seen};
-ghost use Rattle.contraction.specs.Ready.{Ready, keysFor, lookIn, arriveIn, stepIn};
+ghost use Rattle.graph.specs.Walks.{seen};
+ghost use Rattle.marks.specs.Ready.{keysFor, Ready};
+ghost use Rattle.contraction.specs.Over.{lookIn, arriveIn, stepIn};
 ghost use Rattle.contraction.specs.Says.{Both, Advances};
 use super::Strands;
 use dna::Base;
@@ -16,31 +17,6 @@ use graph::StopReason;
 use kmer::Kmer;
 use state::Side;
 use table::Found;
-
-// The base that has this code. The remainder tells the compiler that there is no fifth.
-pub(crate) fn base_of(code: u8) -> Base
-    requires { ⌜ code < 4 ⌝ }
-    ensures { λ r. ⌜ codeIn r ≡ code ⌝ }
-{
-    match code % 4 {
-        0 => Base::A,
-        1 => Base::C,
-        2 => Base::G,
-        _ => Base::T,
-    }
-}
-
-// The base that an edge appends: on Front it is complemented.
-fn leaving_base(side: Side, edge: u8) -> Base
-    requires { ⌜ edge < 4 ⌝ }
-    ensures { λ r. ⌜ codeIn r ≡ leaving side edge ⌝ }
-{
-    let base = base_of(edge);
-    match side {
-        Side::Front => base.complement(),
-        Side::Back => base,
-    }
-}
 
 // Vertex v as a walk sees it that leaves by a side: canonical by Back, its reverse complement by Front.
 pub(crate) fn strands_of(k: usize, keys: &[u64], marks: &[u8], v: usize, side: Side) -> Strands
@@ -157,7 +133,7 @@ fn leave(
     if edge == 4 {
         return Step::Stop(StopReason::SeveralEdges);
     }
-    let base = leaving_base(side, edge);
+    let base = marks::leaving_base(side, edge);
     let next = rolled(k, strands, base);
     arrive(k, keys, directory, marks, anchor, start, next, base.bits())
 }

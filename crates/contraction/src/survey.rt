@@ -4,8 +4,8 @@ ghost use mathlib.Core.Bool.{_||_};
 ghost use Prim.Native.Nat.{_+_, _*_, _≤_, _<_};
 ghost use lib.ListN.{length};
 ghost use Rattle.dna.specs.Text.{over};
-ghost use Rattle.contraction.specs.Ready.{Ready};
-ghost use Rattle.contraction.specs.Says.{Extracts, Surveys, Unvisited};
+ghost use Rattle.marks.specs.Ready.{Ready, Unvisited};
+ghost use Rattle.contraction.specs.Says.{Extracts, Surveys};
 ghost use Rattle.contraction.specs.Trail.{pieceIn, trailIn};
 use super::CLOSED;
 use super::Extracted;
@@ -96,19 +96,6 @@ fn follow_all(
     }
 }
 
-// How large a directory of n vertices is worth its making.
-fn cells_for(n: usize) -> usize
-    ensures { λ r. ⌜ r ≤ 16385 ⌝ }
-{
-    if n <= 2048 {
-        return 1025;
-    }
-    if n <= 8192 {
-        return 4097;
-    }
-    16385
-}
-
 // The directory is made first.
 fn follow_by(
     k: usize,
@@ -130,6 +117,6 @@ pub(crate) fn survey(k: usize, keys: &[u64], marks: &mut [u8], trail: &mut [u8])
     ensures { λ r. ⌜ Surveys k (now (keys .entry)) (now (marks .entry)) (length (now (marks .entry))) (r .labels) (r .bases) (r .missing) (now (marks .exit)) × (now (trail .exit) ≡ over (trailIn k (now (keys .entry)) (now (marks .entry)) (length (now (marks .entry)))) (now (trail .entry))) ⌝ }
 {
     let mut directory = [0u32; 16385];
-    let cells = cells_for(marks.len());
+    let cells = directory::cells_for(marks.len());
     follow_by(k, keys, &mut directory[..cells], marks, trail)
 }

@@ -3,7 +3,8 @@ ghost use mathlib.Core.Path.{_≡_};
 ghost use Prim.Native.Nat.{_+_, _≤_, _<_};
 ghost use lib.ListN.{length};
 ghost use Rattle.graph.specs.Walks.{closed, missing};
-ghost use Rattle.contraction.specs.Ready.{Ready, walkIn};
+ghost use Rattle.marks.specs.Ready.{Ready};
+ghost use Rattle.contraction.specs.Over.{walkIn};
 ghost use Rattle.contraction.specs.Says.{Spells};
 use super::Walked;
 use super::step;
@@ -59,7 +60,7 @@ pub(crate) fn spell(
     loop {
         match step::advance(k, keys, directory, marks, anchor, start, v, s, strands) {
             Step::Next { vertex, side, base } => {
-                let letter = step::base_of(base);
+                let letter = marks::base_of(base);
                 strands = step::rolled(k, strands, letter);
                 buffer[at + bases] = letter.to_ascii();
                 v = vertex;

@@ -1,5 +1,5 @@
 -- Runs that meet what the theorems ask, computed: a table by one call, one moved to larger slices and contracted, one through C, two from opposite
--- strands, two of different kinds; and files that the program refuses. Assumes nothing.
+-- strands, two of different kinds, one whose list is judged; and files that the program refuses. Assumes nothing.
 use Prim.Native.Nat.{ℕ}
 use mathlib.Core.Path.{_≡_, refl}
 use mathlib.Core.Logic.{inl}
@@ -22,20 +22,29 @@ use Rattle.graph.specs.Several.{openSeveral}
 use Rattle.graph.specs.Walks.{isolated, openWalks}
 use Rattle.graph.specs.Labels.{openLabels}
 use Rattle.graph.specs.Contraction.{endsIn, contract, openContraction}
+use Rattle.graph.specs.Fasta.{fasta, openFasta}
 use Rattle.adding.specs.declared.AddAnswer.the-variants.{Added, InvalidBase}
 use Rattle.adding.specs.declared.LabelsAnswer.the-variants.{Tried}
 use Rattle.adding.specs.declared.Mode.the-variants.{SameCanonical, Reversed}
 use Rattle.contraction.specs.declared.ContractAnswer.the-variants.{Contracted}
 use Rattle.contraction.specs.Says.{Contracts}
+use Rattle.fasta.specs.declared.FastaAnswer.the-variants.{Written}
+use Rattle.fasta.specs.Says.{Lists}
+use Rattle.rules.specs.Listing.{openListing}
+use Rattle.rules.specs.Verdict.{openVerdict}
+use Rattle.rules.specs.Judging.{judge, openJudging}
+use Rattle.judging.specs.declared.JudgeAnswer.the-variants.{Passes}
+use Rattle.judging.specs.Answers.{Judges}
 use Rattle.capi.specs.Says.{noted}
 use Rattle.label_file.specs.LabelFile.{openLabelFile}
-use Rattle.laws.specs.Windows.{occurrences}
-use Rattle.laws.specs.Demand.{OneBase, Demand3}
+use Rattle.laws.specs.Windows.{occurrences, openWindows}
+use Rattle.laws.specs.Demand.{OneBase, Demand3, openDemand}
 use Rattle.laws.specs.Strands.{EitherStrand.turned, Turned, Turned.none, Turned.more}
 use Rattle.demands.specs.Calls.{Called, Called.fresh, Called.adds, Called.adds-many, Called.moves, Given, Given.none, Given.next}
 use Rattle.demands.specs.Printed.{Refuses, Refuses.form, Refuses.bad-k, Refuses.label}
 use Rattle.demands.proofs.Meets.{call-isolated}
 use Rattle.demands.proofs.Strands.{runs-strands}
+use Rattle.demands.proofs.Judged.{call-judged}
 use Rattle.demands.proofs.ThroughC.{c-called, c-refused, c-called-many, c-meets}
 
 -- P4's labels, CAT and ATG, by one call of `add_labels`.
@@ -197,6 +206,21 @@ presence-met-through-c =
       lengths-after = refl;
       marks-after = refl;
     }) presence-through-c refl (omega arith)
+
+-- ---- a list judged
+
+-- The list of that table as FASTA, judged: all that `call-judged` asks is met.
+p1-written : Lists (Written 8) (bytes ">0\nACCC\n" ++ zeros 1) (fasta (bytes "ACCC" ++ zeros 5) (zeros 3) (4 ∷ 0 ∷ 0 ∷ []) 1 (zeros 9))
+unfolding openText openEntries openFasta
+p1-written = record { answer = refl; slice = refl }
+
+p1-judging : Judges Passes (zeros 3 ++ (7 ∷ [])) (judge fourBits 3 1 3 keys counts (bytes ">0\nACCC\n") (7 ∷ 7 ∷ 7 ∷ 7 ∷ []))
+unfolding openText openLetters openOrder openKmer openCounted openTable openWalks openContraction openWindows openDemand openListing openVerdict openJudging
+p1-judging = record { answer = refl; marks-after = refl }
+
+pub p1-judged : Passes ≡ Passes
+unfolding openText
+p1-judged = call-judged p1-moved refl 1 (zeros 9) (zeros 3) (zeros 3) (zeros 3) p1-contracted refl (zeros 9) p1-written refl (7 ∷ 7 ∷ 7 ∷ 7 ∷ []) (omega arith) p1-judging
 
 -- ---- files that are refused
 

@@ -2,8 +2,10 @@ pub mod Growing
 pub mod Meets
 pub mod Strands
 pub mod AnyKind
+pub mod Judged
 pub mod Program
 pub mod Every
+pub mod Programs
 pub mod Told
 pub mod ThroughC
 pub mod Example

@@ -44,7 +44,7 @@ use Rattle.demands.specs.Calls.{
 use Rattle.demands.proofs.Growing.{added-grown}
 
 -- Each mode has a rule that demand 3 can do with.
-lawful : (m : Mode) (K : ℕ) → Lawful (excepted m K) (ruleOf m) K
+pub lawful : (m : Mode) (K : ℕ) → Lawful (excepted m K) (ruleOf m) K
 lawful mode.SameCanonical = lawful-canonical
 lawful mode.Reversed = lawful-reversed
 

@@ -6,7 +6,6 @@ use Prim.Native.Nat.{ℕ, _*_, _≤_}
 use native.Mathlib.Omega.{arith}
 use lib.ListN.{length, getD, take}
 use borrow.Author.Tests.{ne-eqb}
-use Rattle.state.specs.declared.EdgeKind.{EdgeKind}
 use Rattle.state.specs.declared.EdgeKind.the-variants as kinds
 use Rattle.state.specs.Says.{kindOf}
 use Rattle.graph.specs.Table.{tableOf, keysOf}
@@ -24,10 +23,26 @@ use Rattle.adding.specs.Says.{addAnswer, ruleOf, Adds, AddsLabels}
 use Rattle.contraction.specs.declared.ContractAnswer.{ContractAnswer}
 use Rattle.contraction.specs.declared.ContractAnswer.the-variants as all
 use Rattle.contraction.specs.Says.{contractAnswer, Contracts}
-use Rattle.capi.specs.Says.{edgeKindOf, modeOf, numberOf, figures, noted, ofEdges, ofTotals, AddsLabel, AddsSeveral, ContractsTable}
+use Rattle.rules.specs.Judging.{judge}
+use Rattle.judging.specs.declared.JudgeAnswer.{JudgeAnswer}
+use Rattle.judging.specs.Answers.{judgeAnswer, Judges}
+use Rattle.capi.specs.Says.{
+  edgeKindOf,
+  modeOf,
+  numberOf,
+  figures,
+  noted,
+  ofEdges,
+  ofTotals,
+  ofVerdict,
+  AddsLabel,
+  AddsSeveral,
+  ContractsTable,
+  JudgesText,
+}
 use Rattle.laws.specs.Demand.{Demand3}
 use Rattle.demands.specs.Calls.{excepted, Called, Called.adds, Called.adds-many, onto}
-use Rattle.demands.proofs.Told.{add-told, labels-told, contract-told}
+use Rattle.demands.proofs.Told.{add-told, labels-told, contract-told, judge-told}
 use Rattle.demands.proofs.Meets.{called-refused, call-meets, call-fits}
 
 -- Two figures in a slice that has room for them.
@@ -168,3 +183,18 @@ module _ (kind K cutoff n : ℕ) (keys counts labels starts lengths marks : List
       go all.FewMarks a q = omega arith
       go all.MissingVertex a q = omega arith
       go all.NoRoom a q = call-fits (edgeKindOf kind) K cutoff n keys counts labels starts lengths marks a b s l refl
+
+-- ---- `lash_judge`
+
+-- The call of `judge` that it is; `call-yes`, `call-no` and `call-judged` of Judged.antt speak of that.
+pub c-judges : (kind K cutoff n : ℕ) (keys counts text marks : List ℕ) {r : ℕ} {marks′ figures₀ figures′ : List ℕ}
+    → JudgesText r marks′ figures₀ figures′ (judge (kindOf (edgeKindOf kind)) K cutoff n keys counts text marks)
+    → (a : JudgeAnswer) × Judges a marks′ (judge (kindOf (edgeKindOf kind)) K cutoff n keys counts text marks)
+    × (r ≡ numberOf (judgeAnswer a)) × (figures′ ≡ noted (figures ofVerdict (judgeAnswer a)) figures₀)
+c-judges kind K cutoff n keys counts text marks {figures₀ = figures₀} c =
+    let t = judge-told (kindOf (edgeKindOf kind)) K cutoff n keys counts text marks in (
+      t .0,
+      record { answer = t .1; marks-after = c .marks-after },
+      c .number ∙ ap numberOf (sym (t .1)),
+      c .figures-after ∙ ap (λ a. noted (figures ofVerdict a) figures₀) (sym (t .1)),
+    )

@@ -1,13 +1,13 @@
--- Each answer of the definitions of adding and of contraction is told by a case of the calls' enums. Assumes nothing.
+-- Each answer of the definitions of adding, of contraction and of the judgement is told by a case of the calls' enums. Assumes nothing.
 use mathlib.Core.Path.{_≡_, refl}
 use mathlib.Core.Bool.{not, _||_}
 use mathlib.Core.List.{List, [], _∷_}
-use Prim.Native.Nat.{ℕ, suc}
-use lib.Dec.{ltb}
+use Prim.Native.Nat.{ℕ, suc, _%_}
+use lib.Dec.{ltb, eqb}
 use lib.ListN.{length}
 use Rattle.lemmas.proofs.Tests.{choose}
 use Rattle.dna.specs.Letters.{isBase, firstBad}
-use Rattle.dna.specs.Answer.{Answer}
+use Rattle.dna.specs.Answer.{Answer, gives}
 use Rattle.dna.proofs.Answers.{either}
 use Rattle.kmer.specs.Kmer.{okK}
 use Rattle.state.specs.Counted.{Kind, answersFor}
@@ -26,6 +26,12 @@ use Rattle.adding.specs.Says.{addAnswer, labelsSay}
 use Rattle.contraction.specs.declared.ContractAnswer.{ContractAnswer}
 use Rattle.contraction.specs.declared.ContractAnswer.the-variants as all
 use Rattle.contraction.specs.Says.{contractAnswer}
+use Rattle.rules.specs.Listing.{Listing, holds, noList, listing}
+use Rattle.rules.specs.Verdict.{Verdict, yes, no, verdict}
+use Rattle.rules.specs.Judging.{Judgement, onList, judge}
+use Rattle.judging.specs.declared.JudgeAnswer.{JudgeAnswer}
+use Rattle.judging.specs.declared.JudgeAnswer.the-variants as judged
+use Rattle.judging.specs.Answers.{judgeAnswer}
 
 -- ---- adding
 
@@ -103,3 +109,27 @@ module _ (κ : Kind) (K cutoff n : ℕ) (keys counts labels starts lengths marks
       (λ _. choose ToldAll (not (answersFor κ cutoff)) (λ _. (all.WrongCutoff, refl))
       (λ _. choose ToldAll (ltb (length marks) n) (λ _. (all.FewMarks, refl))
       (λ _. finish-told (run K (keysOf n keys) (endsIn κ cutoff (tableOf n keys counts)) n)))))
+
+-- ---- the judgement
+
+module _ (κ : Kind) (K cutoff n : ℕ) (keys counts text marks : List ℕ) where
+  abbrev ToldOf : Judgement → Type 0
+  ToldOf j = (x : JudgeAnswer) × (judgeAnswer x ≡ j .answer)
+
+  verdict-told : (v : Verdict) → (x : JudgeAnswer) × (judgeAnswer x ≡ gives v)
+  verdict-told yes = (judged.Passes, refl)
+  verdict-told (no rule label) = (judged.Breaks rule label, refl)
+
+  list-told : (l : Listing) → ToldOf (onList κ K cutoff n keys counts text marks l)
+  unfolding onList
+  list-told (holds ls) = verdict-told (verdict K (keysOf n keys) (endsIn κ cutoff (tableOf n keys counts)) ls)
+  list-told noList = (judged.NoList, refl)
+
+  pub judge-told : ToldOf (judge κ K cutoff n keys counts text marks)
+  unfolding judge
+  judge-told =
+      choose ToldOf (not (okK K)) (λ _. (judged.UnsupportedK K, refl))
+      (λ _. choose ToldOf (not (fitFor κ K n keys counts)) (λ _. (judged.Unfit, refl))
+      (λ _. choose ToldOf (not (answersFor κ cutoff)) (λ _. (judged.WrongCutoff, refl))
+      (λ _. choose ToldOf (ltb (length marks) n) (λ _. (judged.FewMarks, refl))
+      (λ _. choose ToldOf (eqb (K % 2) 0) (λ _. (judged.EvenK, refl)) (λ _. list-told (listing K text))))))

@@ -1,12 +1,20 @@
--- How many leading bases so many cells tell apart: at most seven, and each of their runs has a cell, with one over. Assumes nothing.
+-- How many cells so many keys are worth, and how many leading bases so many cells tell apart: at most seven, and each of their runs
+-- has a cell, with one over. Assumes nothing.
 use mathlib.Core.Path.{_≡_}
 use mathlib.Core.Bool.{true, false}
 use Prim.Native.Nat.{ℕ, _^_, _<_, _≤_}
 use native.Mathlib.Omega.{arith}
 use borrow.Author.Tests.{ltb-true, ltb-false, lt-ltb, le-ltb}
-use lib.Dec.{ltb}
+use lib.Dec.{ltb, leb}
 use Rattle.lemmas.proofs.Tests.{choose}
-use Rattle.directory.specs.Directory.{basesOf}
+use Rattle.directory.specs.Directory.{basesOf, cellsFor}
+
+-- A directory is worth at most 16,385 cells.
+pub cells-most : (n : ℕ) → cellsFor n ≤ 16385
+unfolding cellsFor
+cells-most n =
+    choose (λ (c : ℕ). c ≤ 16385) (leb n 2048) (λ _. omega arith)
+    (λ _. choose (λ (c : ℕ). c ≤ 16385) (leb n 8192) (λ _. omega arith) (λ _. omega arith))
 
 -- What holds of each number of bases where there are so many cells.
 bases-by : (P : ℕ → Type 0) (n : ℕ) → (16384 < n → P 7) → (4096 < n → P 6) → (1024 < n → P 5) → (n ≤ 1024 → P 0) → P (basesOf n)

@@ -14,6 +14,10 @@ use Rattle.table.specs.declared.Found.the-variants.{At, Gap}
 abbrev pub basesOf : ℕ → ℕ
 basesOf cells = cond (ltb 16384 cells) 7 (cond (ltb 4096 cells) 6 (cond (ltb 1024 cells) 5 0))
 
+-- How many cells a directory of n keys is worth: more would take longer to make than they save.
+unfoldable pub cellsFor : ℕ → ℕ
+cellsFor n = cond (leb n 2048) 1025 (cond (leb n 8192) 4097 16385)
+
 -- The first b bases of a k-mer as a number; of a k-mer with fewer, all.
 abbrev pub slotOf : ℕ → ℕ → ℕ → ℕ
 slotOf b K x = x / 4 ^ (K - b) % 4 ^ b

@@ -7,7 +7,7 @@ ghost use Rattle.kmer.specs.Says.{valueOf};
 ghost use Rattle.graph.specs.Table.{keysOf};
 ghost use Rattle.table.specs.Search.{key};
 ghost use Rattle.table.specs.declared.Found.the-variants.{Gap};
-ghost use Rattle.directory.specs.Directory.{before, stands, findBy};
+ghost use Rattle.directory.specs.Directory.{cellsFor, before, stands, findBy};
 use kmer::Kmer;
 use table::Found;
 
@@ -15,6 +15,19 @@ mod making;
 mod slots;
 
 pub use making::make;
+
+// How large a directory of n keys is worth its making.
+pub fn cells_for(n: usize) -> usize
+    ensures { λ r. ⌜ r ≡ cellsFor n ⌝ }
+{
+    if n <= 2048 {
+        return 1025;
+    }
+    if n <= 8192 {
+        return 4097;
+    }
+    16385
+}
 
 fn least(a: usize, b: usize) -> usize
     ensures { λ r. ⌜ r ≡ min a b ⌝ }

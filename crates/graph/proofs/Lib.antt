@@ -7,6 +7,7 @@ pub mod Sight
 pub mod Alike
 pub mod Keys
 pub mod Adding
+pub mod Packed
 pub mod Clean
 pub mod AnyOrder
 pub mod Accepted

@@ -10,5 +10,7 @@ pub mod Indexing
 pub mod TakingLabels
 pub mod Listing
 pub mod Whole
+pub mod Verdicts
 pub mod Says
 pub mod Within
+pub mod Printing

@@ -15,10 +15,13 @@ use Rattle.graph.specs.Several.{untried, addEach}
 use Rattle.graph.specs.Contraction.{Contracted}
 use Rattle.graph.specs.Entries.{listed, within}
 use Rattle.graph.specs.Fasta.{recordsOf, fasta}
+use Rattle.rules.specs.Judging.{judge}
 use Rattle.label_file.specs.LabelFile.{LabelFile, damaged, holds, fileOf}
 use Rattle.label_file.specs.Output.{Buffers, Left, withList, refusal, refused, printed, listedAfter, listAll, output}
+use Rattle.label_file.specs.Judged.{answerLine, judgeAll, judgement}
+use Rattle.label_file.specs.Says.{Doing}
 
-abbrev Within : Left → Type 0
+abbrev pub Within : Left → Type 0
 Within l = (n : ℕ) → l .answer ≡ gives n → n ≤ length (l .buffers .text)
 
 fasta-inside : (labels starts lengths : List ℕ) (count : ℕ) (text : List ℕ) → Inside (fasta labels starts lengths count text)
@@ -48,13 +51,27 @@ list-all-within K cutoff labels b =
     let t = addEach fourBits sameCanonical K (untried 0 (b .keys) (b .counts)) labels in
     either Within (t .answer) (λ e _. listed-within (suc (t .labels)) _ _) (λ r vs _. refused-within r (suc (t .labels)) _)
 
-of-file : (b : Buffers) (f : LabelFile) → Within (elim f [
-  | damaged i ↦ refused 13 i b
-  | holds K cutoff labels ↦ cond (okK K) (listAll K cutoff labels b) (refused 1 0 b)
-])
-of-file b (damaged i) = refused-within 13 i b
-of-file b (holds K cutoff labels) = choose Within (okK K) (λ _. list-all-within K cutoff labels b) (λ _. refused-within 1 0 b)
+judge-all-within : (list : List ℕ) (K cutoff : ℕ) (labels : List (List ℕ)) (b : Buffers) → Within (judgeAll list K cutoff labels b)
+unfolding judgeAll
+judge-all-within list K cutoff labels b =
+    let t = addEach fourBits sameCanonical K (untried 0 (b .keys) (b .counts)) labels in
+    let j = judge fourBits K cutoff (t .stored) (t .keys) (t .counts) list (b .marks) in
+    either Within (t .answer) (λ e _. fill-inside 11 (answerLine (suc (t .labels)) (j .answer)) (b .text))
+    (λ r vs _. refused-within r (suc (t .labels)) _)
 
-pub output-within : (b : Buffers) (file : List ℕ) (n : ℕ) → output b file .answer ≡ gives n → n ≤ length (output b file .buffers .text)
+-- The form and K, and whatever is done with what the file holds.
+of-file : (doing : Doing) → ((K cutoff : ℕ) (labels : List (List ℕ)) (b : Buffers) → Within (doing K cutoff labels b)) → (b : Buffers)
+    (f : LabelFile) → Within (elim f [
+      | damaged i ↦ refused 13 i b
+      | holds K cutoff labels ↦ cond (okK K) (doing K cutoff labels b) (refused 1 0 b)
+    ])
+of-file doing within b (damaged i) = refused-within 13 i b
+of-file doing within b (holds K cutoff labels) = choose Within (okK K) (λ _. within K cutoff labels b) (λ _. refused-within 1 0 b)
+
+pub output-within : (b : Buffers) (file : List ℕ) → Within (output b file)
 unfolding output
-output-within b file = of-file b (fileOf file)
+output-within b file = of-file listAll list-all-within b (fileOf file)
+
+pub judgement-within : (b : Buffers) (file list : List ℕ) → Within (judgement b file list)
+unfolding judgement
+judgement-within b file list = of-file (judgeAll list) (judge-all-within list) b (fileOf file)

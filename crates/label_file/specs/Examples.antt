@@ -23,10 +23,10 @@ use Rattle.label_file.specs.LabelFile.{openLabelFile}
 use Rattle.label_file.specs.Output.{unitigs, openOutput}
 
 -- A `KC` record with a cutoff below 256, and an `LB` record.
-abbrev kc : ℕ → ℕ → List ℕ
+abbrev pub kc : ℕ → ℕ → List ℕ
 kc K cutoff = bytes "KC" ++ (K ∷ cutoff ∷ 0 ∷ 0 ∷ 0 ∷ [])
 
-abbrev lb : String → List ℕ
+abbrev pub lb : String → List ℕ
 lb s = bytes "LB" ++ (length (bytes s) ∷ 0 ∷ bytes s)
 
 abbrev examples : List (List ℕ × String)

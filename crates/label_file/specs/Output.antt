@@ -22,9 +22,13 @@ decimal (suc most) x s =
     let more = decimal most (x / 10) d in
     cond (ltb x 10) d more
 
+-- Two numbers, a space between, and a newline.
+abbrev pub numbers : ℕ → ℕ → List ℕ
+numbers x y = decimal 20 x (bytes " " ++ decimal 20 y (bytes "\n"))
+
 -- The line of a refusal, `R n p` and a newline: n the refusal, p the record, or the number of records after the last.
 abbrev pub refusal : ℕ → ℕ → List ℕ
-refusal n p = bytes "R " ++ decimal 20 n (bytes " " ++ decimal 20 p (bytes "\n"))
+refusal n p = bytes "R " ++ numbers n p
 
 -- The buffers that the program lends to the calls.
 pub record Buffers : Type 0 where

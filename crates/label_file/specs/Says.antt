@@ -1,19 +1,22 @@
 -- What the enums of this crate say, and what its parts do. Assumes nothing.
 use Prim.Native.Nat.{ℕ, suc, _+_, _≤_}
 use mathlib.Core.Path.{_≡_}
-use mathlib.Core.Bool.{true}
+use mathlib.Core.Bool.{true, cond}
 use mathlib.Core.List.{List, []}
 use lib.ListN.{drop}
 use Rattle.dna.specs.Answer.{Answer, gives, refuses, Filled}
+use Rattle.kmer.specs.Kmer.{okK}
 use Rattle.graph.specs.Adding.{Edges}
 use Rattle.graph.specs.Entries.{listed, within}
 use Rattle.graph.specs.Several.{Several}
 use Rattle.label_file.specs.LabelFile.{damaged, holds, kIn, cutoffIn, fileOf, labelsOf}
-use Rattle.label_file.specs.Output.{Buffers, Left, decimal}
+use Rattle.label_file.specs.Output.{Buffers, Left, decimal, refused}
 use Rattle.label_file.specs.declared.ListAnswer.{ListAnswer}
 use Rattle.label_file.specs.declared.ListAnswer.the-variants as list
 use Rattle.label_file.specs.declared.Checked.{Checked}
 use Rattle.label_file.specs.declared.Checked.the-variants as checked
+use Rattle.label_file.specs.declared.Head.{Head}
+use Rattle.label_file.specs.declared.Head.the-variants as head
 use Rattle.label_file.specs.declared.Outcome.{Outcome}
 use Rattle.label_file.specs.declared.Outcome.the-variants as outcome
 use Rattle.label_file.specs.declared.Taking.{Taking}
@@ -42,6 +45,23 @@ Sound file = fileOf file ≡ holds (kIn file) (cutoffIn file) (labelsOf (fileOf 
 abbrev pub formSays : Checked → List ℕ → Type 0
 formSays (checked.Damaged i) file = fileOf file ≡ damaged i
 formSays checked.Sound file = Sound file
+
+-- What is done with K, the cutoff, the labels and the buffers.
+abbrev pub Doing : Type 0
+Doing = ℕ → ℕ → List (List ℕ) → Buffers → Left
+
+-- It is done with a file whose form and whose K are right, as `output` and `judgement` have it.
+abbrev pub onFile : Doing → Buffers → List ℕ → Left
+onFile doing b file = elim (fileOf file) [
+  | damaged i ↦ refused 13 i b
+  | holds K cutoff labels ↦ cond (okK K) (doing K cutoff labels b) (refused 1 0 b)
+]
+
+-- What the form of a file and its K say of whatever is to be done with it: that it is refused, or by which K and cutoff it is done.
+abbrev pub headSays : Head → List ℕ → Type 0
+headSays (head.Refused r p) file = (doing : Doing) (b : Buffers) → onFile doing b file ≡ refused r p b
+headSays (head.Holds k cutoff) file =
+    Sound file × ((doing : Doing) (b : Buffers) → onFile doing b file ≡ doing k cutoff (labelsOf (fileOf file)) b)
 
 -- A number of what is given, or the refusal's.
 abbrev pub outcomeOf : {A : Type 0} → (A → ℕ) → Answer A → Outcome

@@ -3,8 +3,9 @@ ghost use mathlib.Core.Path.{_≡_};
 ghost use Prim.Native.Nat.{_+_, _<_, _≤_};
 ghost use lib.ListN.{length, drop};
 ghost use Rattle.label_file.specs.LabelFile.{two, headed, labelled};
-ghost use Rattle.label_file.specs.Says.{formSays};
+ghost use Rattle.label_file.specs.Says.{formSays, headSays};
 use super::Checked;
+use super::Head;
 
 // Two bytes, low byte first.
 pub(crate) fn two_bytes(file: &[u8], at: usize) -> usize
@@ -64,4 +65,30 @@ pub(crate) fn form(file: &[u8]) -> Checked
         record += 1;
     }
     Checked::Sound
+}
+
+// The form, then K.
+pub(crate) fn read_head(file: &[u8]) -> Head
+    ensures { λ r. ⌜ headSays r (now (file .entry)) ⌝ }
+{
+    match form(file) {
+        Checked::Damaged(record) => Head::Refused { number: 13, record },
+        Checked::Sound => {
+            let k = file[2] as usize;
+            if k < 1 {
+                return Head::Refused {
+                    number: 1,
+                    record: 0,
+                };
+            }
+            if 63 < k {
+                return Head::Refused {
+                    number: 1,
+                    record: 0,
+                };
+            }
+            let cutoff = (two_bytes(file, 3) + 65536 * two_bytes(file, 5)) as u32;
+            Head::Holds { k, cutoff }
+        }
+    }
 }

@@ -11,7 +11,7 @@ ghost use Rattle.contraction.specs.Says.{contractAnswer};
 ghost use Rattle.label_file.specs.LabelFile.{fileOf, labelsOf};
 ghost use Rattle.label_file.specs.Output.{lent, printed, listedAfter, listAll, output};
 ghost use Rattle.label_file.specs.Says.{Fills, Lists, Sound, outcomeOf, Takes};
-use super::Checked;
+use super::Head;
 use super::ListAnswer;
 use super::Outcome;
 use super::Taking;
@@ -55,7 +55,7 @@ fn listed_by(answer: ContractAnswer) -> Outcome
 }
 
 // The labels added in order, until one is refused. Their index lies within the file, so it is not refused itself.
-fn take_labels(file: &[u8], k: usize, keys: &mut [u64], counts: &mut [u32]) -> Taking
+pub(crate) fn take_labels(file: &[u8], k: usize, keys: &mut [u64], counts: &mut [u32]) -> Taking
     requires { ⌜ Sound (now file) ⌝ }
     ensures { λ r. ⌜ Takes r (now (keys .exit)) (now (counts .exit)) (addEach fourBits sameCanonical k (untried 0 (now (keys .entry)) (now (counts .entry))) (labelsOf (fileOf (now (file .entry))))) ⌝ }
 {
@@ -193,29 +193,19 @@ pub fn list_unitigs(
 ) -> ListAnswer
     ensures { λ r. ⌜ Lists r (lent (now (keys .exit)) (now (counts .exit)) (now (labels .exit)) (now (starts .exit)) (now (lengths .exit)) (now (marks .exit)) (now (text .exit))) (output (lent (now (keys .entry)) (now (counts .entry)) (now (labels .entry)) (now (starts .entry)) (now (lengths .entry)) (now (marks .entry)) (now (text .entry))) (now (file .entry))) ⌝ }
 {
-    match form::form(file) {
-        Checked::Damaged(record) => line::refuse(13, record, text),
-        Checked::Sound => {
-            let k = file[2] as usize;
-            if k < 1 {
-                return line::refuse(1, 0, text);
-            }
-            if 63 < k {
-                return line::refuse(1, 0, text);
-            }
-            let cutoff = (form::two_bytes(file, 3) + 65536 * form::two_bytes(file, 5)) as u32;
-            list_labels(
-                file,
-                k,
-                cutoff,
-                keys,
-                counts,
-                labels,
-                starts,
-                lengths,
-                marks,
-                text,
-            )
-        }
+    match form::read_head(file) {
+        Head::Holds { k, cutoff } => list_labels(
+            file,
+            k,
+            cutoff,
+            keys,
+            counts,
+            labels,
+            starts,
+            lengths,
+            marks,
+            text,
+        ),
+        Head::Refused { number, record } => line::refuse(number, record, text),
     }
 }

@@ -27,7 +27,7 @@ use Rattle.laws.proofs.Plain.{plain-turned, lesser-cases, lesser-least}
 use Rattle.laws.proofs.Indexed.{sorted-occurrences, in-order-each, in-order-ascend}
 use Rattle.laws.proofs.Outward.{trail-outward}
 
-paired-each : {A B : Type 0} {R : A → B → Type 0} {P : A → Type 0} → ((x : A) (y : B) → R x y → P x)
+pub paired-each : {A B : Type 0} {R : A → B → Type 0} {P : A → Type 0} → ((x : A) (y : B) → R x y → P x)
     → {xs : List A} {ys : List B} → Paired R xs ys → Each P xs
 paired-each f nothing = none
 paired-each f (pair {x = x} {y = y} r p) = more (f x y r) (paired-each f p)

@@ -113,7 +113,7 @@ edge-is κ cutoff n keys counts v s h l =
     ∙ ends-edge κ cutoff (getD (take n counts) v 0) s ∙ ap (λ (w : ℕ). edgeAt κ cutoff w s) (getD-take n counts v 0 h)
 
 -- A single retained edge was counted.
-edge-counted : (κ : Kind) (cutoff w : ℕ) (s : Side) → edgeAt κ cutoff w s < 4 → 0 < count κ w (slotOf s (edgeAt κ cutoff w s))
+pub edge-counted : (κ : Kind) (cutoff w : ℕ) (s : Side) → edgeAt κ cutoff w s < 4 → 0 < count κ w (slotOf s (edgeAt κ cutoff w s))
 edge-counted κ zero w s h = absurd (omega (arith, cutoff-zero κ w s))
 edge-counted κ (suc c) w s h = omega (arith, edge-base κ (suc c) w s h (edgeAt κ (suc c) w s) .1 refl .1)
 

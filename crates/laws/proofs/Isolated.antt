@@ -42,7 +42,7 @@ isolated-side es v Front h = eqb-true (edge es v Front) 5 (both (eqb (edge es v 
 isolated-side es v Back h = eqb-true (edge es v Back) 5 (both (eqb (edge es v Front) 5) (eqb (edge es v Back) 5) h .1)
 
 -- A side with a count of at least the cutoff does not answer E.
-edge-some : (κ : Kind) (cutoff w : ℕ) (s : Side) (c : ℕ) → c < 4 → cutoff ≤ count κ w (slotOf s c) → edgeAt κ cutoff w s ≡ 5 → ⊥
+pub edge-some : (κ : Kind) (cutoff w : ℕ) (s : Side) (c : ℕ) → c < 4 → cutoff ≤ count κ w (slotOf s c) → edgeAt κ cutoff w s ≡ 5 → ⊥
 unfolding edgeCount
 edge-some κ cutoff w s c h k e = no-member (retained κ cutoff w s 4 0) (edge-none κ cutoff w s .0 e) c (retained-exactly κ cutoff w s c .1 (h, k))
   where

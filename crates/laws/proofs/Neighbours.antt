@@ -35,7 +35,7 @@ use Rattle.laws.proofs.Pieces.{path, next-reverse, taken-join}
 
 -- ---- lists that are mapped or turned round
 
-map-reverse : (f : ℕ → ℕ) (l : List ℕ) → map f (reverse l) ≡ reverse (map f l)
+pub map-reverse : (f : ℕ → ℕ) (l : List ℕ) → map f (reverse l) ≡ reverse (map f l)
 map-reverse f [] = refl
 map-reverse f (x ∷ l) =
     ap (map f) (reverse-cons x l) ∙ map-append f (reverse l) (x ∷ []) ∙ ap (λ (z : List ℕ). z ++ (f x ∷ [])) (map-reverse f l)
@@ -54,7 +54,7 @@ together-map f {x} {y} (ends-two ms) = subst (λ (z : List ℕ). Together (f x) 
 ends-turned : (x y : ℕ) (ms : List ℕ) → reverse (x ∷ (ms ++ (y ∷ []))) ≡ y ∷ (reverse ms ++ (x ∷ []))
 ends-turned x y ms = reverse-cons x (ms ++ (y ∷ [])) ∙ ap (λ (z : List ℕ). z ++ (x ∷ [])) (reverse-append ms (y ∷ []))
 
-together-turned : {x y : ℕ} {l : List ℕ} → Together x y l → Together x y (reverse l)
+pub together-turned : {x y : ℕ} {l : List ℕ} → Together x y l → Together x y (reverse l)
 together-turned (follows n) = precedes (next-reverse n)
 together-turned (precedes n) = follows (next-reverse n)
 together-turned {x} {y} (two-ends ms) = subst (Together x y) (sym (ends-turned x y ms)) (ends-two (reverse ms))

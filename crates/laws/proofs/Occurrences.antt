@@ -64,7 +64,7 @@ module _ (K : ℕ) (ks : List ℕ) (fit : fitFrom K 0 ks ≡ true) where
   pub canon-seen : (v : ℕ) (s : Side) → v < length ks → canon K (seen K ks v s) ≡ getD ks v 0
   canon-seen v s h = ap (canon K) (seen-is K ks v s) ∙ odd.canon-seen K (getD ks v 0) s (key-at K ks fit v h)
 
-  seen-lt : (v : ℕ) (s : Side) → v < length ks → seen K ks v s < 4 ^ K
+  pub seen-lt : (v : ℕ) (s : Side) → v < length ks → seen K ks v s < 4 ^ K
   seen-lt v s h = rw (seen-is K ks v s) (odd.seen-lt K (getD ks v 0) s (key-at K ks fit v h))
 
   pub canon-kmers : (ps : List Place) → Inside (length ks) ps → map (canon K) (kmers K ks ps) ≡ keysAt ps

@@ -24,11 +24,11 @@ use Rattle.laws.proofs.Joining.{trail-far, trail-closed}
 abbrev pub path : Piece → List ℕ
 path p = reverse (vertices (p .front)) ++ (p .anchor ∷ vertices (p .back))
 
-next-before : {x y : ℕ} {l : List ℕ} (xs : List ℕ) → Next x y l → Next x y (xs ++ l)
+pub next-before : {x y : ℕ} {l : List ℕ} (xs : List ℕ) → Next x y l → Next x y (xs ++ l)
 next-before [] n = n
 next-before (x ∷ xs) n = later (next-before xs n)
 
-next-after : {x y : ℕ} {l : List ℕ} (ys : List ℕ) → Next x y l → Next x y (l ++ ys)
+pub next-after : {x y : ℕ} {l : List ℕ} (ys : List ℕ) → Next x y l → Next x y (l ++ ys)
 next-after ys now = now
 next-after ys (later n) = later (next-after ys n)
 

@@ -1,14 +1,14 @@
 -- A tour of the anchors visits no vertex twice, and each anchor that it has passed unless that is isolated. Assumes nothing.
 use mathlib.Core.Path.{_≡_, refl, sym, ap, _∙_}
-use mathlib.Core.Bool.{Bool, true, false, _||_}
-use mathlib.Core.Logic.{_⊎_, inl, inr, ⊎-elim}
+use mathlib.Core.Bool.{false}
+use mathlib.Core.Logic.{⊎-elim}
 use mathlib.Core.List.{List, [], _∷_, _++_}
 use Prim.Native.Nat.{ℕ, zero, suc, _+_, _≤_, _<_}
 use native.Mathlib.Nat.{eq-or-lt-of-le}
 use native.Mathlib.Omega.{arith}
 use lib.ListN.{length, getD, set, replicate, length-set, length-replicate}
 use borrow.Author.Tests.{eqb-true, eq-eqb}
-use Rattle.lemmas.proofs.Tests.{never, or-first}
+use Rattle.lemmas.proofs.Tests.{never, or-first, or-cases}
 use Rattle.state.specs.declared.Side.the-variants.{Front, Back}
 use Rattle.graph.specs.Walks.{Ends, visited, isolated}
 use Rattle.laws.specs.Trails.{occ}
@@ -29,10 +29,6 @@ zeros : (n i : ℕ) → getD {A = ℕ} (replicate n 0) i 0 ≡ 0
 zeros zero i = refl
 zeros (suc n) zero = refl
 zeros (suc n) (suc i) = zeros n i
-
-or-cases : (x y : Bool) → (x || y) ≡ true → (x ≡ true) ⊎ (y ≡ true)
-or-cases true y h = inl refl
-or-cases false y h = inr h
 
 module _ (K : ℕ) (ks : List ℕ) (es : List Ends) where
   -- The marks after one anchor, which was not visited.

@@ -1,6 +1,7 @@
 -- Tests: what follows from the value of a Bool. Assumes nothing.
 use mathlib.Core.Path.{_≡_, refl, sym}
 use mathlib.Core.Bool.{Bool, true, false, cond, _&&_, _||_, false≢true}
+use mathlib.Core.Logic.{_⊎_, inl, inr}
 use Prim.Native.Nat.{ℕ}
 use native.Mathlib.Omega.{arith}
 
@@ -22,6 +23,16 @@ or-first false b h = refl
 pub or-second : (a b : Bool) → (a || b) ≡ false → b ≡ false
 or-second true b h = absurd (false≢true (sym h))
 or-second false b h = h
+
+-- One test of a disjunction holds,
+pub or-cases : (a b : Bool) → (a || b) ≡ true → (a ≡ true) ⊎ (b ≡ true)
+or-cases true b h = inl refl
+or-cases false b h = inr h
+
+-- and it holds where its second test does.
+pub or-on : (a : Bool) {b : Bool} → b ≡ true → (a || b) ≡ true
+or-on true h = refl
+or-on false h = h
 
 -- Two tests of which each holds where the other does.
 pub same-bool : (a b : Bool) → (a ≡ true → b ≡ true) → (b ≡ true → a ≡ true) → a ≡ b

@@ -1,11 +1,12 @@
 -- The ends and the visits that marks hold, and what marking a vertex does to them. Assumes nothing.
 use mathlib.Core.Path.{_≡_, refl, sym, ap, _∙_}
-use mathlib.Core.Bool.{false}
+use mathlib.Core.Bool.{true, false}
 use mathlib.Core.List.{List, [], _∷_, map}
 use Prim.Native.Nat.{ℕ, zero, suc, _+_, _/_, _%_, _≤_, _<_}
 use native.Mathlib.Omega.{arith}
 use lib.Dec.{eqb}
 use lib.ListN.{length, getD, set, length-map}
+use lib.Seq.{getD-set-same}
 use Rattle.lemmas.proofs.Lists.{getD-map}
 use Rattle.state.specs.declared.Side.{Side}
 use Rattle.state.specs.declared.Side.the-variants.{Front, Back}
@@ -60,6 +61,10 @@ unfolding visits
 visits-marking ms v =
     let e : marked (getD ms v 0) / 64 ≡ 1 = omega arith in
     map-set (λ m. m / 64) ms v (marked (getD ms v 0)) ∙ ap (set (map (λ m. m / 64) ms) v) e
+
+-- It is visited then.
+pub visited-now : (ms : List ℕ) (v : ℕ) → v < length ms → visited (set (visits ms) v 1) v ≡ true
+visited-now ms v h = ap (λ (m : ℕ). eqb m 1) (getD-set-same (visits ms) v 1 0 (omega (arith, visits-length ms)))
 
 pub ends-marking : (ms : List ℕ) (v : ℕ) → ends (marking ms v) ≡ ends ms
 unfolding ends

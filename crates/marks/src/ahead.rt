@@ -2,11 +2,13 @@
 ghost use mathlib.Core.Path.{_≡_};
 ghost use mathlib.Core.Bool.{not, _&&_, _||_};
 ghost use mathlib.Core.List.{List};
-ghost use Prim.Native.Nat.{ℕ};
+ghost use Prim.Native.Nat.{ℕ, _%_};
 ghost use lib.Dec.{eqb};
 ghost use Rattle.state.specs.Counted.{sameSide};
-ghost use Rattle.graph.specs.Walks.{enter as entered, isolated, visited};
+ghost use Rattle.dna.specs.Calls.{codeIn};
+ghost use Rattle.graph.specs.Walks.{enter as entered, isolated, leaving, visited};
 ghost use Rattle.marks.specs.Marks.{endIn, ends, visits};
+use dna::Base;
 use graph::Step;
 use graph::StopReason;
 use state::Side;
@@ -18,6 +20,29 @@ pub fn edge_in(mark: u8, side: Side) -> u8
     match side {
         Side::Front => mark % 8,
         Side::Back => mark / 8 % 8,
+    }
+}
+
+// The base that has this code. The remainder tells the compiler that there is no fifth.
+pub fn base_of(code: u8) -> Base
+    ensures { λ r. ⌜ codeIn r ≡ code % 4 ⌝ }
+{
+    match code % 4 {
+        0 => Base::A,
+        1 => Base::C,
+        2 => Base::G,
+        _ => Base::T,
+    }
+}
+
+// The base that an edge appends: on Front it is complemented.
+pub fn leaving_base(side: Side, edge: u8) -> Base
+    ensures { λ r. ⌜ codeIn r ≡ leaving side (edge % 4) ⌝ }
+{
+    let base = base_of(edge);
+    match side {
+        Side::Front => base.complement(),
+        Side::Back => base,
     }
 }
 

@@ -1,4 +1,4 @@
-// Standard input, read whole. What it holds is the world's, so the contract says only how much of the buffer it took.
+// A file, or standard input, read whole. What it holds is the world's, so the contracts say only how much of the buffer it took.
 ghost use Rattle.reading.specs.Within.{Within};
 use libc::STDIN_FILENO;
 
@@ -9,23 +9,23 @@ pub enum Input {
 }
 
 // One read into a slice: how many bytes came.
-fn read_some(part: &mut [u8]) -> Input
+fn read_some(fd: i32, part: &mut [u8]) -> Input
     ensures { λ r. ⌜ Within r (now (part .exit)) ⌝ }
 {
-    let got = libc::read(STDIN_FILENO, part);
+    let got = libc::read(fd, part);
     if got < 0 {
         return Input::Failed;
     }
     Input::Bytes(io::count(got, part))
 }
 
-// Reads until the input ends or the buffer is full; the input stands from the buffer's first byte on.
-pub fn read_input(buffer: &mut [u8]) -> Input
+// Reads a descriptor until its input ends or the buffer is full; the input stands from the buffer's first byte on.
+pub fn read_from(fd: i32, buffer: &mut [u8]) -> Input
     ensures { λ r. ⌜ Within r (now (buffer .exit)) ⌝ }
 {
     let mut done = 0;
     while done < buffer.len() {
-        match read_some(&mut buffer[done..]) {
+        match read_some(fd, &mut buffer[done..]) {
             Input::Failed => return Input::Failed,
             Input::Bytes(more) => {
                 if more == 0 {
@@ -36,4 +36,11 @@ pub fn read_input(buffer: &mut [u8]) -> Input
         }
     }
     Input::Bytes(done)
+}
+
+// Standard input.
+pub fn read_input(buffer: &mut [u8]) -> Input
+    ensures { λ r. ⌜ Within r (now (buffer .exit)) ⌝ }
+{
+    read_from(STDIN_FILENO, buffer)
 }

@@ -1,7 +1,7 @@
 -- The vertex is marked, and the step is the one that leaves it. Assumes nothing.
 use lib.ListN.{length-set}
 use Rattle.marks.proofs.Marking.{ends-marking}
-use Rattle.contraction.proofs.Still.{ready-still}
+use Rattle.marks.proofs.Still.{ready-still}
 use Rattle.contraction.proofs.Rolling.{both-still}
 use Rattle.contraction.proofs.Stepping.{advanced}
 use borrow.Author.Needs.{needs}

@@ -2,7 +2,7 @@
 use Rattle.dna.specs.Calls.{codeIn}
 use Rattle.kmer.specs.Says.{valueOf}
 use Rattle.contraction.proofs.Rolling.{both-here}
-use Rattle.contraction.proofs.Stepping.{leave-none, leave-several, leave-base, leave-code, leave-on}
+use Rattle.contraction.proofs.Stepping.{leave-none, leave-several, leave-code, leave-on}
 use borrow.Author.Needs.{needs}
 use Rattle.contraction.proofs.step.leave.Statement.{statement}
 use Rattle.contraction.proofs.step.leave.Tie as tie
@@ -18,13 +18,6 @@ returns-2 c =
     let s = c .before .before .before .before .before .before .before in
     let a = s .args in
     leave-several (s .pre .0) (a .anchor) (a .start) (a .v) (a .side) (s .pre .1) (c .before .before .edge-in .ensures) (c .if2 .taken)
-
-leaving-base-requires : tie.Need-leaving-base-requires
-leaving-base-requires c κs =
-    let s = c .before .before .before .before .before .before .before in
-    let a = s .args in
-    leave-base (s .pre .0) (a .anchor) (a .start) (a .v) (a .side) (s .pre .1)
-    (c .before .before .edge-in .ensures) (c .before .if1 .left) (c .if2 .left)
 
 rolled-requires : tie.Need-rolled-requires
 rolled-requires c κs =
@@ -61,7 +54,7 @@ leave-spec =
     (λ c. search needs) (λ c κs. search needs)
     returns
     returns-2
-    leaving-base-requires
+    (λ c κs. search needs)
     rolled-requires
     (λ c κs. search needs)
     arrive-requires

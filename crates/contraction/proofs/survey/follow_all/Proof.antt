@@ -7,7 +7,7 @@ use Rattle.dna.specs.Text.{over}
 use Rattle.contraction.specs.Says.{Surveys}
 use Rattle.contraction.specs.Trail.{trailIn}
 use Rattle.marks.proofs.Marking.{ends-length}
-use Rattle.contraction.proofs.Still.{ready-still}
+use Rattle.marks.proofs.Still.{ready-still}
 use Rattle.contraction.proofs.Paving.{Paving, paving-start, paving-length, skip-fits, paving-skip, piece-fits, paving-take}
 use Rattle.contraction.proofs.Surveying.{Surveying, surveying-start, surveying-skip, surveying-take}
 use borrow.Author.Needs.{needs}

@@ -1,7 +1,7 @@
 -- Each refusal is a case of the definition, in its order; what is left is the contraction of a fit table. Assumes nothing.
 use mathlib.Core.Path.{sym, _∙_}
 use borrow.Author.Tests.{not-true, not-false}
-use Rattle.contraction.proofs.Refusals.{unsupported, unfit, wrong-cutoff, few-marks, fit-first, goes-on}
+use Rattle.contraction.proofs.Refusals.{unsupported, unfit, wrong-cutoff, few-marks, lent-first, goes-on}
 use Rattle.state.specs.Says.{kindOf}
 use borrow.Author.Needs.{needs}
 use Rattle.contraction.proofs.unitigs.contract.Statement.{statement}
@@ -31,7 +31,7 @@ contract-first-requires c κs =
     let tried = told .before .before in
     let a = tried .before .before .before .before .before .before .before .args in (
       left .if2 .left,
-      fit-first (kindOf (a .kind)) (a .k) (a .cutoff) (a .n) (a .keys .now) (a .counts .now) (a .labels .now) (a .starts .now) (a .lengths .now) (a .marks .now)
+      lent-first (kindOf (a .kind)) (a .k) (a .cutoff) (a .n) (a .keys .now) (a .counts .now) (a .labels .now) (a .starts .now) (a .lengths .now) (a .marks .now)
           (tried .fit .ensures) (told .enum-told2 .given .1) (left .if2 .left),
     )
 

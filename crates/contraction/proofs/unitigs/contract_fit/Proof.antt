@@ -4,7 +4,7 @@ use mathlib.Core.Path.{_∙_}
 use Prim.Native.Nat.{ℕ}
 use native.Mathlib.Omega.{arith}
 use lib.ListN.{length-replicate}
-use Rattle.contraction.proofs.Digested.{ready, clean}
+use Rattle.marks.proofs.Made.{ready, clean}
 use Rattle.contraction.proofs.Finishing.{missing-vertex, no-room, writable, contracted}
 use Rattle.state.specs.Says.{kindOf}
 use borrow.Author.Needs.{needs}

@@ -6,11 +6,13 @@ use lib.ListN.{length}
 use Rattle.dna.specs.Letters.{letterOf}
 use Rattle.kmer.specs.Kmer.{forward}
 use Rattle.graph.specs.Walks.{seen}
-use Rattle.contraction.specs.Ready.{keysFor, walkIn}
+use Rattle.contraction.specs.Over.{walkIn}
 use Rattle.contraction.specs.Says.{Both}
 use Rattle.marks.proofs.Marking.{ends-length}
-use Rattle.contraction.proofs.Still.{ready-still}
+use Rattle.marks.specs.Ready.{keysFor}
+use Rattle.marks.proofs.Still.{ready-still}
 use Rattle.contraction.proofs.Rolling.{both-here, both-on, both-still}
+use Rattle.contraction.proofs.Stepping.{code-small}
 use Rattle.contraction.proofs.Walking.{Walking, walk-few, walking-start, walking-less, walking-next, walking-base, walking-seen, walking-ends}
 use Rattle.contraction.proofs.Spelling.{Spelling, spelling-start, spelling-length, spelling-next, spelling-ends}
 use borrow.Author.Needs.{needs}
@@ -44,12 +46,6 @@ advance-requires c κs =
       omega (arith, g .below, ends-length _ _ (g .kept)),
       both-still (s .args .keys .now) (s .args .marks .now) _ (l .v) (l .s) (g .kept) (l .inv .2),
     )
-
-base-of-requires : tie.Need-base-of-requires Inv-loop μ-loop
-base-of-requires c κs =
-    let went = c .before .before .before .before .before in
-    let base = walking-base (went .before .before .loop .inv .0) (went .advance .ensures) (c .before .vertex .given .1) in
-    omega (arith, base .1)
 
 rolled-requires : tie.Need-rolled-requires Inv-loop μ-loop
 rolled-requires c κs =
@@ -91,12 +87,12 @@ loop-again c =
     let g = went .before .before .loop .inv in
     let next = c .before .before .before .before .vertex .given .1 in
     let less = walking-less (g .0) (went .advance .ensures) next in
-    let base = walking-base (g .0) (went .advance .ensures) next .0 in
-    let code = c .before .before .base-of .ensures in
+    let base = walking-base (g .0) (went .advance .ensures) next in
+    let code = code-small (c .before .before .base-of .ensures) (base .1) in
     let letter = c .to-ascii .ensures ∙ ap letterOf code in
     let ahead = ap (forward _ _) code ∙ walking-seen (g .0) (went .advance .ensures) next in (
       walking-next (g .0) (went .advance .ensures) next,
-      spelling-next (g .1) less base letter,
+      spelling-next (g .1) less (base .0) letter,
       both-on (g .2) _ ahead (c .before .rolled .ensures),
     )
 
@@ -126,7 +122,7 @@ spell-spec =
     loop-holds
     advance-requires
     (λ c. search needs)
-    base-of-requires
+    (λ c κs. search needs)
     rolled-requires
     (λ c κs. search needs)
     add-buffer

@@ -1,0 +1,11 @@
+pub mod Looked
+pub mod Rows
+pub mod Edges
+pub mod Lines
+pub mod Passes
+pub mod Orderly
+pub mod Marking
+pub mod Counting
+pub mod Lacked
+pub mod Refusing
+pub mod Answered
