@@ -1,3 +1,4 @@
+pub mod Finding
 pub mod Looked
 pub mod Rows
 pub mod Edges

@@ -22,17 +22,15 @@ use Rattle.state.specs.declared.Side.the-variants.{Front, Back}
 use Rattle.state.specs.Counted.{opposite}
 use Rattle.graph.specs.Table.{rank, stored}
 use Rattle.graph.specs.Walks.{Ends, edge, leaving, entrance}
-use Rattle.graph.proofs.Rank.{stored-lt}
-use Rattle.graph.proofs.Keys.{keys-length}
 use Rattle.laws.specs.Demand.{retained}
 use Rattle.laws.proofs.Sides.{leaving-lt}
-use Rattle.table.specs.Search.{findIn}
 use Rattle.table.specs.declared.Found.{Found}
 use Rattle.table.specs.declared.Found.the-variants.{At, Gap}
-use Rattle.table.proofs.Ranked.{find-rank}
+use Rattle.directory.specs.Directory.{findBy}
 use Rattle.marks.specs.Marks.{endIn, ends}
 use Rattle.marks.proofs.Marking.{edge-is}
 use Rattle.rules.specs.Verdict.{leadsTo, after, exit, isStep, isOneBase, apart, looseEnd}
+use Rattle.judging.proofs.Finding.{at-is, gap-is, at-lt}
 use Rattle.judging.specs.declared.Seen.{Seen}
 use Rattle.marks.specs.Ready.{keysFor, Ready}
 use Rattle.judging.specs.Says.{Sees, Kmers, turnedOf, exitOf, afterOf, leadsBy, stepBy, lesserOf}
@@ -55,7 +53,7 @@ turned-is K ok x l e t =
 
 module _ {K : ℕ} {keys ms : List ℕ} (r : Ready K keys ms) (x : Kmer) (l : valueOf x < 4 ^ K)
     {y : Answered} (turned : Answers y (reverseCall K (valueOf x))) (c : Kmer) (smaller : valueOf c ≡ lesserOf x (y .kmer))
-    {f : Found} (ended : f ≡ findIn (keysFor ms keys) (valueOf c)) where
+    (cells : List ℕ) {f : Found} (ended : f ≡ findBy K (keysFor ms keys) cells (valueOf c)) where
   abbrev ks : List ℕ
   ks = keysFor ms keys
 
@@ -65,34 +63,19 @@ module _ {K : ℕ} {keys ms : List ℕ} (r : Ready K keys ms) (x : Kmer) (l : va
   canon-is : valueOf c ≡ canon K (valueOf x)
   canon-is = smaller ∙ lesser-canon K x (y .kmer) (valueOf x) refl other-is
 
-  found : f ≡ cond (stored ks (canon K (valueOf x))) (At (rank ks (canon K (valueOf x)))) (Gap (rank ks (canon K (valueOf x))))
-  found = ended ∙ ap (findIn ks) canon-is ∙ find-rank K ks (canon K (valueOf x)) (r .fits)
-
-  pub found-at : {w : ℕ} → f ≡ At w → (stored ks (canon K (valueOf x)) ≡ true) × (rank ks (canon K (valueOf x)) ≡ w)
-  found-at {w} e =
-      choose (λ (g : Found). g ≡ At w → (stored ks (canon K (valueOf x)) ≡ true) × (rank ks (canon K (valueOf x)) ≡ w))
-      (stored ks (canon K (valueOf x)))
-      (λ p q. (p, cc)) (λ p q. absurd (let z : _≡_ {A = ℕ} 0 1 = cc in omega arith)) (sym found ∙ e)
-
-  found-gap : {w : ℕ} → f ≡ Gap w → stored ks (canon K (valueOf x)) ≡ false
-  found-gap {w} e =
-      choose (λ (g : Found). g ≡ Gap w → stored ks (canon K (valueOf x)) ≡ false) (stored ks (canon K (valueOf x)))
-      (λ p q. absurd (let z : _≡_ {A = ℕ} 0 1 = cc in omega arith)) (λ p q. p) (sym found ∙ e)
-
-  pub place-lt : {w : ℕ} → f ≡ At w → w < length ms
-  place-lt e =
-      let p = found-at e in
-      omega (arith, stored-lt ks (canon K (valueOf x)) (p .0), p .1, keys-length (length ms) keys)
-
   pub seen-at : {w : ℕ} → f ≡ At w → Sees K ks (ends ms) (valueOf x) (record { here = x; other = y .kmer; mark = getD ms w 0 })
   unfolding retained
   seen-at {w} e =
-      let p = found-at e in
-      record { below = l; here = refl; other = other-is; edges = λ s. sym (edge-is ms w (place-lt e) s) ∙ rw (p .0, p .1) }
+      let p : (stored ks (canon K (valueOf x)) ≡ true) × (rank ks (canon K (valueOf x)) ≡ w) =
+      rw canon-is at (at-is r cells (valueOf c) ended e) in
+      let q = at-lt r cells (valueOf c) ended e in
+      record { below = l; here = refl; other = other-is; edges = λ s. sym (edge-is ms w q s) ∙ rw (p .0, p .1) }
 
   pub seen-gap : {w : ℕ} → f ≡ Gap w → Sees K ks (ends ms) (valueOf x) (record { here = x; other = y .kmer; mark = 45 })
   unfolding retained
-  seen-gap e = record { below = l; here = refl; other = other-is; edges = λ s. none s ∙ sym (rw (found-gap e)) }
+  seen-gap e =
+      let p : stored ks (canon K (valueOf x)) ≡ false = rw canon-is at (gap-is r cells (valueOf c) ended e) in
+      record { below = l; here = refl; other = other-is; edges = λ s. none s ∙ sym (rw p) }
     where
       none : (s : Side) → endIn 45 s ≡ 5
       none Front = refl

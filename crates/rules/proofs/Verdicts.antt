@@ -22,10 +22,11 @@ use Rattle.rules.proofs.Firsts.{first-le, lowest-one}
 use Rattle.rules.proofs.Rising.{lowest-1, keeps-1, broken-1}
 use Rattle.rules.proofs.Standing.{lowest-2, nowhere-2, keeps-2, missing-2, lacking-2, broken-2}
 use Rattle.rules.proofs.Stepping.{lowest-3, keeps-3, broken-3}
-use Rattle.rules.proofs.Meeting.{Good, lowest-4, keeps-4, broken-4}
+use Rattle.rules.proofs.Straying.{Good}
+use Rattle.rules.proofs.Meeting.{lowest-4, keeps-4, broken-4}
 
 module _ (K : ℕ) (ks : List ℕ) (es : List Ends) (one : 1 ≤ K) (odd : K % 2 ≡ 1) (fit : fitFrom K 0 ks ≡ true) where
-  good : {ls : List (List ℕ)} → Each (Label K) ls → Rule3 K ks es ls → Each (Good K ks es one odd fit) ls
+  good : {ls : List (List ℕ)} → Each (Label K) ls → Rule3 K ks es ls → Each (Good K ks es) ls
   good none none = none
   good (more p e) (more s r) = more (record { label = p; steps = s }) (good e r)
 

@@ -1,10 +1,7 @@
 -- Where the smaller strand is stored, its mark. Assumes nothing.
-use mathlib.Core.Path.{_∙_}
-use lib.ListN.{length}
 use Rattle.kmer.specs.Says.{valueOf}
-use Rattle.graph.specs.Table.{keysOf}
-use Rattle.directory.proofs.Confirmed.{found-by}
-use Rattle.judging.proofs.Looked.{place-lt, seen-at, seen-gap}
+use Rattle.judging.proofs.Finding.{at-lt}
+use Rattle.judging.proofs.Looked.{seen-at, seen-gap}
 use borrow.Author.Needs.{needs}
 use Rattle.judging.proofs.seeing.see.Statement.{statement}
 use Rattle.judging.proofs.seeing.see.Tie as tie
@@ -13,13 +10,8 @@ shared-slice-read-t14 : tie.Need-shared-slice-read-t14
 shared-slice-read-t14 c =
     let found = c .before .before .before .before in
     let k = found .before in
-    let t = found .before .before .before in
-    let s = t .before .before .before .before in
-    let a = s .args in
-    place-lt (s .pre .0) (a .x) (s .pre .1) (t .reverse-complement .ensures) (k .lesser .result) (k .lesser .ensures)
-    (found .find .ensures ∙ found-by (a .k) (keysOf (length (a .marks .now)) (a .keys .now)) (s .pre .0 .fits) (a .k)
-    (a .directory .now) (valueOf (k .lesser .result)))
-    (c .before .before .v .given .1)
+    let s = found .before .before .before .before .before .before .before in
+    at-lt (s .pre .0) (s .args .directory .now) (valueOf (k .lesser .result)) (found .find .ensures) (c .before .before .v .given .1)
 
 returns : tie.Need-returns
 returns c =
@@ -29,8 +21,7 @@ returns c =
     let s = t .before .before .before .before in
     let a = s .args in
     seen-at (s .pre .0) (a .x) (s .pre .1) (t .reverse-complement .ensures) (k .lesser .result) (k .lesser .ensures)
-    (found .find .ensures ∙ found-by (a .k) (keysOf (length (a .marks .now)) (a .keys .now)) (s .pre .0 .fits) (a .k)
-    (a .directory .now) (valueOf (k .lesser .result)))
+    (a .directory .now) (found .find .ensures)
     (c .before .before .v .given .1)
 
 returns-2 : tie.Need-returns-2
@@ -41,8 +32,7 @@ returns-2 c =
     let s = t .before .before .before .before in
     let a = s .args in
     seen-gap (s .pre .0) (a .x) (s .pre .1) (t .reverse-complement .ensures) (k .lesser .result) (k .lesser .ensures)
-    (found .find .ensures ∙ found-by (a .k) (keysOf (length (a .marks .now)) (a .keys .now)) (s .pre .0 .fits) (a .k)
-    (a .directory .now) (valueOf (k .lesser .result)))
+    (a .directory .now) (found .find .ensures)
     (c .enum-told .given .1)
 
 pub see-spec : {M : Type 1} → statement M

@@ -1,10 +1,7 @@
 -- Where the k-mer is stored, it is marked unless it was or is isolated, and its edges are compared. Assumes nothing.
-use mathlib.Core.Path.{_∙_}
-use lib.ListN.{length}
 use Rattle.kmer.specs.Says.{valueOf}
-use Rattle.graph.specs.Table.{keysOf}
-use Rattle.directory.proofs.Confirmed.{found-by}
-use Rattle.judging.proofs.Marking.{at-lt, kmer-gap, kmer-skipped, kmer-fine, kmer-bad}
+use Rattle.judging.proofs.Finding.{at-lt}
+use Rattle.judging.proofs.Marking.{kmer-gap, kmer-skipped, kmer-fine, kmer-bad}
 use borrow.Author.Needs.{needs}
 use Rattle.judging.proofs.standing.test_kmer.Statement.{statement}
 use Rattle.judging.proofs.standing.test_kmer.Tie as tie
@@ -15,10 +12,7 @@ returns c =
     let found = seen .before .before in
     let s = found .before .before .before .before .before in
     let a = s .args in
-    let told-by =
-    found-by (a .k) (keysOf (length (a .marks .now)) (a .keys .now)) (s .pre .0 .fits) (a .k) (a .directory .now)
-    (valueOf (a .c)) in
-    kmer-skipped (s .pre .0) (a .label .now) (a .o) (valueOf (a .c)) (a .side) (found .find .ensures ∙ told-by)
+    kmer-skipped (s .pre .0) (a .directory .now) (a .label .now) (a .o) (valueOf (a .c)) (a .side) (found .find .ensures)
     (seen .v .given .1) (c .before .is-skipped .ensures) (c .if1 .taken)
 
 slice-read-mark : tie.Need-slice-read-mark
@@ -27,10 +21,7 @@ slice-read-mark c =
     let found = seen .before .before in
     let s = found .before .before .before .before .before in
     let a = s .args in
-    let told-by =
-    found-by (a .k) (keysOf (length (a .marks .now)) (a .keys .now)) (s .pre .0 .fits) (a .k) (a .directory .now)
-    (valueOf (a .c)) in
-    at-lt (s .pre .0) (valueOf (a .c)) (found .find .ensures ∙ told-by) (seen .v .given .1)
+    at-lt (s .pre .0) (a .directory .now) (valueOf (a .c)) (found .find .ensures) (seen .v .given .1)
 
 slice-write-marks : tie.Need-slice-write-marks
 slice-write-marks c =
@@ -38,10 +29,7 @@ slice-write-marks c =
     let found = seen .before .before in
     let s = found .before .before .before .before .before in
     let a = s .args in
-    let told-by =
-    found-by (a .k) (keysOf (length (a .marks .now)) (a .keys .now)) (s .pre .0 .fits) (a .k) (a .directory .now)
-    (valueOf (a .c)) in
-    at-lt (s .pre .0) (valueOf (a .c)) (found .find .ensures ∙ told-by) (seen .v .given .1)
+    at-lt (s .pre .0) (a .directory .now) (valueOf (a .c)) (found .find .ensures) (seen .v .given .1)
 
 returns-2 : tie.Need-returns-2
 returns-2 c =
@@ -51,10 +39,7 @@ returns-2 c =
     let found = seen .before .before in
     let s = found .before .before .before .before .before in
     let a = s .args in
-    let told-by =
-    found-by (a .k) (keysOf (length (a .marks .now)) (a .keys .now)) (s .pre .0 .fits) (a .k) (a .directory .now)
-    (valueOf (a .c)) in
-    kmer-fine (s .pre .0) (a .label .now) (a .o) (valueOf (a .c)) (a .side) (found .find .ensures ∙ told-by)
+    kmer-fine (s .pre .0) (a .directory .now) (a .label .now) (a .o) (valueOf (a .c)) (a .side) (found .find .ensures)
     (seen .v .given .1) (skipped .is-skipped .ensures) (joined .before .before .if1 .left)
     (joined .is-joined .ensures) (c .if2 .taken)
 
@@ -63,10 +48,7 @@ returns-3 c =
     let found = c .before .before in
     let s = found .before .before .before .before .before in
     let a = s .args in
-    let told-by =
-    found-by (a .k) (keysOf (length (a .marks .now)) (a .keys .now)) (s .pre .0 .fits) (a .k) (a .directory .now)
-    (valueOf (a .c)) in
-    kmer-gap (s .pre .0) (a .label .now) (a .o) (valueOf (a .c)) (a .side) (found .find .ensures ∙ told-by)
+    kmer-gap (s .pre .0) (a .directory .now) (a .label .now) (a .o) (valueOf (a .c)) (a .side) (found .find .ensures)
     (c .enum-told .given .1)
 
 returns-4 : tie.Need-returns-4
@@ -77,10 +59,7 @@ returns-4 c =
     let found = seen .before .before in
     let s = found .before .before .before .before .before in
     let a = s .args in
-    let told-by =
-    found-by (a .k) (keysOf (length (a .marks .now)) (a .keys .now)) (s .pre .0 .fits) (a .k) (a .directory .now)
-    (valueOf (a .c)) in
-    kmer-bad (s .pre .0) (a .label .now) (a .o) (valueOf (a .c)) (a .side) (found .find .ensures ∙ told-by)
+    kmer-bad (s .pre .0) (a .directory .now) (a .label .now) (a .o) (valueOf (a .c)) (a .side) (found .find .ensures)
     (seen .v .given .1) (skipped .is-skipped .ensures) (joined .before .before .if1 .left)
     (joined .is-joined .ensures) (c .if2 .left)
 
