@@ -258,6 +258,88 @@ static void judging(void) {
     gets("judging it closed once more", &cycle, 1, ">0\nATCATC\n", 2, 0);
 }
 
+/* The labels of a panel, an index of four entries, of which the last ends past them, and what is lent beside. */
+static const char panel_text[] = "AAAAAAAAAAAAAGCGCCAcgAAAAAAAAAAAAAAAAAAAAAAAAAA";
+static const uint32_t panel_starts[] = {0, 18, 33, 33}, panel_lengths[] = {18, 15, 14, 15};
+static uint32_t panel_out[4];
+static uint64_t panel_figures[2];
+
+static uint32_t panel(size_t k, uint32_t cutoff, size_t probe, size_t least, size_t most, size_t count, size_t room) {
+    for (size_t i = 0; i < LEN(panel_out); i++) panel_out[i] = UNTOUCHED;
+    for (size_t i = 0; i < LEN(panel_figures); i++) panel_figures[i] = UNTOUCHED;
+    return lash_panel(k, cutoff, probe, least, most, (const uint8_t *)panel_text, strlen(panel_text), panel_starts, LEN(panel_starts),
+                      panel_lengths, LEN(panel_lengths), count, panel_out, room, panel_figures, LEN(panel_figures));
+}
+
+/* It is refused, and nothing lent is touched. */
+static void no_panel(const char *what, uint32_t got, uint32_t wanted) {
+    same(what, got, wanted);
+    for (size_t i = 0; i < LEN(panel_out); i++) same("a cell of a refused panel", panel_out[i], UNTOUCHED);
+    same("the figure of a refused panel", panel_figures[0], UNTOUCHED);
+}
+
+/* Q-13 of document 02: each refusal in its order, and labels by hand. */
+static void panels(void) {
+    same("a panel of three labels", panel(15, 2, 15, 3, 4, 3, 4), 0);
+    same("its labels", panel_figures[0], 3);
+    same("the cell past the figure", panel_figures[1], UNTOUCHED);
+    same("the first start, where three of 15 are G or C", panel_out[0], 1);
+    same("small letters, which do not count", panel_out[1], LASH_NO_PROBE);
+    same("a label shorter than the probe", panel_out[2], LASH_NO_PROBE);
+    same("the cell past the answers", panel_out[3], UNTOUCHED);
+    same("a panel at the last start", panel(15, 15, 15, 5, 5, 1, 1), 0);
+    same("its start", panel_out[0], 3);
+    same("a panel of no labels", panel(31, 2, 63, 0, 63, 0, 0), 0);
+    same("its labels", panel_figures[0], 0);
+    no_panel("a panel at K = 13", panel(13, 2, 15, 5, 4, 9, 1), 26);
+    no_panel("a panel at K = 16", panel(16, 2, 16, 5, 4, 9, 1), 26);
+    no_panel("a panel at K = 33", panel(33, 2, 33, 5, 4, 9, 1), 26);
+    no_panel("a panel at the last K", panel(SIZE_MAX, 2, 33, 5, 4, 9, 1), 26);
+    no_panel("a panel at cutoff 1", panel(15, 1, 15, 5, 4, 9, 1), 26);
+    no_panel("a panel at cutoff 16", panel(15, 16, 15, 5, 4, 9, 1), 26);
+    no_panel("a probe shorter than K", panel(17, 2, 16, 5, 4, 9, 1), 26);
+    no_panel("a probe of 64", panel(31, 2, 64, 5, 4, 9, 1), 26);
+    no_panel("least above most", panel(15, 2, 15, 5, 4, 9, 1), 27);
+    no_panel("most above the probe", panel(15, 2, 15, 5, 16, 9, 1), 27);
+    no_panel("a panel past the labels", panel(15, 2, 15, 3, 4, 4, 1), 12);
+    no_panel("a panel past the index", panel(15, 2, 15, 3, 4, SIZE_MAX, 1), 12);
+    no_panel("a panel without room", panel(15, 2, 15, 3, 4, 3, 2), 28);
+    same("a panel without figures",
+         lash_panel(15, 2, 15, 3, 4, (const uint8_t *)panel_text, strlen(panel_text), panel_starts, 4, panel_lengths, 4, 1, panel_out, 4,
+                    panel_figures, 0), 0);
+}
+
+/* The README's reads of two strains, of which the last has a base misread: their list at K = 15 and cutoff 2, and probes of 20 bases of
+ * which 9 to 11 are G or C. */
+static void strains(void) {
+    const char *reads = "CGGATCCTTACTACACTAACTTGAACGCCTAGTGG" "CCACTAGGCGTTCAAGTTAGTGTAGTAAGGATCCG"
+                        "CGGATCCTTACTACACTGACTTGAACGCCTAGTGG" "CCACTAGGCGTTCAAGTCAGTGTAGTAAGGATCCG"
+                        "CGGATCCTAACTACACTAACTTGAACGCCTAGTGG";
+    const char *list[] = {"ACTTGAACGCCTAGTGG", "AGTGTAGTAAGGATCCG", "ATCCTTACTACACTAACTTGAACGCCTAG", "ATCCTTACTACACTGACTTGAACGCCTAG"};
+    const uint32_t from[] = {0, 35, 70, 105, 140}, size[] = {35, 35, 35, 35, 35}, wanted[] = {LASH_NO_PROBE, LASH_NO_PROBE, 6, 5};
+    uint64_t keys[2 * 64], totals[2], figures[2];
+    uint32_t counts[64], starts[64], lengths[64], out[4];
+    uint8_t labels[64 * 15], marks[64];
+    same("adding the strains",
+         lash_add_labels(0, 0, 15, 0, keys, LEN(keys), counts, LEN(counts), (const uint8_t *)reads, strlen(reads), from, LEN(from), size,
+                         LEN(size), LEN(from), totals, 2, figures, 2), 0);
+    same("their k-mers", totals[1], 45);
+    same("contracting the strains",
+         lash_contract(0, 15, 2, totals[1], keys, LEN(keys), counts, LEN(counts), labels, LEN(labels), starts, LEN(starts), lengths,
+                       LEN(lengths), marks, LEN(marks), figures, 2), 0);
+    same("their labels", figures[0], LEN(list));
+    for (size_t i = 0; i < LEN(list); i++) {
+        same("the length of a strain's label", lengths[i], strlen(list[i]));
+        same_bytes("a strain's label", labels + starts[i], list[i], strlen(list[i]));
+    }
+    same("a panel of the strains",
+         lash_panel(15, 2, 20, 9, 11, labels, LEN(labels), starts, LEN(starts), lengths, LEN(lengths), figures[0], out, LEN(out), figures, 1), 0);
+    same("its labels", figures[0], LEN(list));
+    same_bytes("the strains' starts", out, wanted, sizeof out);
+    same_bytes("the probe of strain A", labels + starts[2] + out[2], "ACTACACTAACTTGAACGCC", 20);
+    same_bytes("the probe of strain B", labels + starts[3] + out[3], "TACTACACTGACTTGAACGC", 20);
+}
+
 int main(void) {
     uint64_t keys[32], keys_before[32], figures[3];
     uint32_t counts[16], counts_before[16], starts[16], lengths[16];
@@ -401,6 +483,8 @@ int main(void) {
 
     presence_bits();
     judging();
+    panels();
+    strains();
 
     if (differences == 0) printf("check: ok\n");
     return differences != 0;

@@ -135,6 +135,32 @@ uint32_t lash_judge(uint32_t kind, size_t k, uint32_t cutoff, size_t n,
                     uint8_t *marks, size_t marks_len,
                     uint64_t *figures, size_t figures_len);
 
+/* The answer of lash_panel for a label without a probe; no start is so large. */
+#define LASH_NO_PROBE 4294967295u
+
+/* Answers a probe for each label of a list. Label i is the bytes of labels from starts[i] on, lengths[i] of them; for each
+ * of the first count entries, out[i] is the first start, counted from 0 within the label, at which a part of probe bases has
+ * between least and most bytes G or C (capitals alone count), and LASH_NO_PROBE exactly where no start of the label has one.
+ * Cells of out past count stay as they were. The time is linear in the bases; no table is needed, and the cutoff is only
+ * tested.
+ * For a list that lash_contract made with this K, and returned 0 for, two answers use no common k-mer, on either strand, and
+ * no answer uses one twice; so it is for every list in which no k-mer stands twice, among them each that lash_judge has
+ * passed with this K.
+ * Figure: the number of labels answered, which is count.
+ * Refusals, in the order in which they are tried:
+ *   26  K even or outside 15..31, cutoff outside 2..15, or probe outside K..63
+ *   27  least above most, or most above probe
+ *   12  count past starts or lengths, or an entry past the labels
+ *   28  count past the slice out
+ */
+uint32_t lash_panel(size_t k, uint32_t cutoff, size_t probe, size_t least, size_t most,
+                    const uint8_t *labels, size_t labels_len,
+                    const uint32_t *starts, size_t starts_len,
+                    const uint32_t *lengths, size_t lengths_len,
+                    size_t count,
+                    uint32_t *out, size_t out_len,
+                    uint64_t *figures, size_t figures_len);
+
 #ifdef __cplusplus
 }
 #endif

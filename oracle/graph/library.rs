@@ -22,4 +22,8 @@ unsafe extern "C" {
         kind: u32, k: usize, cutoff: u32, n: usize, keys: *const u64, keys_len: usize, counts: *const u32, counts_len: usize, text: *const u8,
         text_len: usize, marks: *mut u8, marks_len: usize, figures: *mut u64, figures_len: usize,
     ) -> u32;
+    pub fn lash_panel(
+        k: usize, cutoff: u32, probe: usize, least: usize, most: usize, labels: *const u8, labels_len: usize, starts: *const u32, starts_len: usize,
+        lengths: *const u32, lengths_len: usize, count: usize, out: *mut u32, out_len: usize, figures: *mut u64, figures_len: usize,
+    ) -> u32;
 }

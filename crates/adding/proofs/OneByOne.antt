@@ -12,12 +12,12 @@ use lib.ListN.{length, getD, take, drop}
 use lib.Seq.{drop-cons}
 use Rattle.dna.specs.Answer.{gives, refuses}
 use Rattle.state.specs.Counted.{Kind}
+use Rattle.label_index.specs.Entries.{within, listed}
+use Rattle.label_index.proofs.Entries.{within-long, within-at}
 use Rattle.graph.specs.Sightings.{Rule}
 use Rattle.graph.specs.Adding.{addLabel}
-use Rattle.graph.specs.Entries.{within, listed}
 use Rattle.graph.specs.Several.{Several, untried, addNext, addEach}
 use Rattle.graph.proofs.Accepted.{accepted, accepted-fit}
-use Rattle.graph.proofs.Entries.{within-long, within-at}
 use Rattle.graph.proofs.Several.{none-after}
 use Rattle.adding.specs.Says.{addAnswer, Adds, AddsLabels, Ready}
 use Rattle.adding.specs.declared.AddAnswer.{AddAnswer}

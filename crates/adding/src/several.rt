@@ -2,8 +2,8 @@
 ghost use mathlib.Core.Path.{_≡_};
 ghost use mathlib.Core.Bool.{true};
 ghost use Rattle.state.specs.Says.{kindOf};
+ghost use Rattle.label_index.specs.Entries.{within, listed};
 ghost use Rattle.graph.specs.Adding.{addLabel};
-ghost use Rattle.graph.specs.Entries.{within, listed};
 ghost use Rattle.graph.specs.Several.{untried, addEach, addLabels};
 ghost use Rattle.adding.specs.Says.{ruleOf, Ready, Adds, AddsLabels};
 use super::AddAnswer;
@@ -104,7 +104,7 @@ pub fn add_labels(
 ) -> LabelsAnswer
     ensures { λ r. ⌜ AddsLabels n r (now (keys .exit)) (now (counts .exit)) (addLabels (kindOf kind) (ruleOf mode) k n (now (keys .entry)) (now (counts .entry)) (now (text .entry)) (now (starts .entry)) (now (lengths .entry)) count) ⌝ }
 {
-    if !fasta::lie_within(text, starts, lengths, count) {
+    if !label_index::lie_within(text, starts, lengths, count) {
         return LabelsAnswer::OutOfText;
     }
     add_each(kind, mode, k, n, keys, counts, text, starts, lengths, count)

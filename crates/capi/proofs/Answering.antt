@@ -16,9 +16,7 @@ use Rattle.rules.specs.Verdict.{Verdict}
 use Rattle.rules.specs.Judging.{Judgement}
 use Rattle.judging.specs.declared.JudgeAnswer.{JudgeAnswer}
 use Rattle.judging.specs.Answers.{judgeAnswer, Judges}
-use Rattle.fasta.specs.declared.FastaAnswer.{FastaAnswer}
-use Rattle.fasta.specs.Says.{fastaAnswer, Lists}
-use Rattle.capi.specs.Says.{numberOf, figures, noted, ofEdges, ofTotals, ofSize, ofVerdict, Tells, AddsLabel, AddsSeveral, ContractsTable, WritesFasta, JudgesText}
+use Rattle.capi.specs.Says.{numberOf, figures, noted, ofEdges, ofTotals, ofSize, ofVerdict, Tells, AddsLabel, AddsSeveral, ContractsTable, FillsOut, JudgesText}
 use Rattle.capi.proofs.Noting.{noted-none}
 
 -- Over the figures before and after; `case` is what an answer was found to be.
@@ -84,12 +82,14 @@ module _ {before after : List ℕ} where
     marks-after = d .marks-after;
   }
 
-  pub writes : {r case : FastaAnswer} {n : ℕ} {out : List ℕ} {f : Filled} → Lists r out f → r ≡ case
-      → n ≡ numberOf (fastaAnswer case) → after ≡ noted (figures ofSize (fastaAnswer case)) before → WritesFasta n out before after f
-  writes d e m h =
-      let w = ap fastaAnswer (sym e) ∙ d .answer in
+  -- A slice is filled; `says` is what the cases of the call's enum mean.
+  pub fills : {R : Type 0} (says : R → Answer ℕ) {r case : R} {n : ℕ} {out : List ℕ} {f : Filled}
+      → says r ≡ f .answer → out ≡ f .slice → r ≡ case → n ≡ numberOf (says case)
+      → after ≡ noted (figures ofSize (says case)) before → FillsOut n out before after f
+  fills says a o e m h =
+      let w = ap says (sym e) ∙ a in
       record {
         number = m ∙ ap numberOf w;
         figures-after = h ∙ ap (λ (x : Answer ℕ). noted (figures ofSize x) before) w;
-        out-after = d .slice;
+        out-after = o;
       }

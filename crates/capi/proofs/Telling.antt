@@ -7,7 +7,7 @@ use Rattle.graph.specs.Adding.{Added}
 use Rattle.graph.specs.Several.{Several}
 use Rattle.graph.specs.Contraction.{Contracted}
 use Rattle.rules.specs.Judging.{Judgement}
-use Rattle.capi.specs.Says.{AddsLabel, AddsSeveral, ContractsTable, WritesFasta, JudgesText}
+use Rattle.capi.specs.Says.{AddsLabel, AddsSeveral, ContractsTable, FillsOut, JudgesText}
 
 -- Over the number and the figures of either, and the figures before.
 module _ {r s : ℕ} {figures₀ figures figures′ : List ℕ} where
@@ -45,9 +45,9 @@ module _ {r s : ℕ} {figures₀ figures figures′ : List ℕ} where
     t .marks-after ∙ sym (u .marks-after),
   )
 
-  pub writes-fasta-one : {out out′ : List ℕ} {f : Filled} → WritesFasta r out figures₀ figures f
-      → WritesFasta s out′ figures₀ figures′ f → (r ≡ s) × (figures ≡ figures′) × (out ≡ out′)
-  writes-fasta-one t u =
+  pub fills-out-one : {out out′ : List ℕ} {f : Filled} → FillsOut r out figures₀ figures f
+      → FillsOut s out′ figures₀ figures′ f → (r ≡ s) × (figures ≡ figures′) × (out ≡ out′)
+  fills-out-one t u =
       (t .number ∙ sym (u .number), t .figures-after ∙ sym (u .figures-after), t .out-after ∙ sym (u .out-after))
 
   pub judges-text-one : {marks marks′ : List ℕ} {j : Judgement} → JudgesText r marks figures₀ figures j

@@ -11,13 +11,15 @@ ghost use Rattle.rules.specs.Judging.{judge};
 ghost use Rattle.adding.specs.Says.{addAnswer, ruleOf};
 ghost use Rattle.contraction.specs.Says.{contractAnswer};
 ghost use Rattle.judging.specs.Answers.{judgeAnswer};
-ghost use Rattle.capi.specs.Says.{edgeKindOf, modeOf, noted, ofEdges, ofTotals, ofVerdict, Tells, AddsLabel, AddsSeveral, ContractsTable, WritesFasta, JudgesText};
+ghost use Rattle.panel.specs.Panel.{panel};
+ghost use Rattle.capi.specs.Says.{edgeKindOf, modeOf, noted, ofEdges, ofTotals, ofVerdict, Tells, AddsLabel, AddsSeveral, ContractsTable, FillsOut, JudgesText};
 use adding::AddAnswer;
 use adding::LabelsAnswer;
 use adding::Mode;
 use contraction::ContractAnswer;
 use fasta::FastaAnswer;
 use judging::JudgeAnswer;
+use panel::PanelAnswer;
 use state::EdgeKind;
 
 // One figure.
@@ -245,7 +247,7 @@ pub extern "C" fn lash_write_fasta(
     out: &mut [u8],
     figures: &mut [u64],
 ) -> u32
-    ensures { λ r. ⌜ WritesFasta r (now (out .exit)) (now (figures .entry)) (now (figures .exit)) (fasta (now (labels .entry)) (now (starts .entry)) (now (lengths .entry)) count (now (out .entry))) ⌝ }
+    ensures { λ r. ⌜ FillsOut r (now (out .exit)) (now (figures .entry)) (now (figures .exit)) (fasta (now (labels .entry)) (now (starts .entry)) (now (lengths .entry)) count (now (out .entry))) ⌝ }
 {
     match fasta::write_fasta(labels, starts, lengths, count, out) {
         FastaAnswer::Written(n) => {
@@ -277,4 +279,45 @@ pub extern "C" fn lash_judge(
         judging::judge(words, k, cutoff, n, keys, counts, text, marks),
         figures,
     )
+}
+
+// `panel`: the figure is the number of labels answered.
+#[no_mangle]
+pub extern "C" fn lash_panel(
+    k: usize,
+    cutoff: u32,
+    probe: usize,
+    least: usize,
+    most: usize,
+    labels: &[u8],
+    starts: &[u32],
+    lengths: &[u32],
+    count: usize,
+    out: &mut [u32],
+    figures: &mut [u64],
+) -> u32
+    ensures { λ r. ⌜ FillsOut r (now (out .exit)) (now (figures .entry)) (now (figures .exit)) (panel k cutoff probe least most
+        (now (labels .entry)) (now (starts .entry)) (now (lengths .entry)) count (now (out .entry))) ⌝ }
+{
+    match panel::panel(
+        k,
+        cutoff,
+        probe,
+        least,
+        most,
+        labels,
+        starts,
+        lengths,
+        count,
+        out,
+    ) {
+        PanelAnswer::Answered(n) => {
+            note(n as u64, figures);
+            0
+        }
+        PanelAnswer::OutOfProfile => 26,
+        PanelAnswer::WrongBounds => 27,
+        PanelAnswer::OutOfLabels => 12,
+        PanelAnswer::NoRoom => 28,
+    }
 }

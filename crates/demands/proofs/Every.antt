@@ -17,9 +17,9 @@ use Rattle.dna.specs.Answer.{Answer, gives, refuses, Filled, fill}
 use Rattle.dna.proofs.Answers.{either}
 use Rattle.kmer.specs.Kmer.{okK}
 use Rattle.state.specs.Counted.{fourBits}
+use Rattle.label_index.specs.Entries.{listed, within}
 use Rattle.graph.specs.Sightings.{sameCanonical}
 use Rattle.graph.specs.Adding.{Edges}
-use Rattle.graph.specs.Entries.{listed, within}
 use Rattle.graph.specs.Several.{untried}
 use Rattle.graph.specs.Contraction.{Totals, Contracted}
 use Rattle.graph.specs.Fasta.{recordsOf, fasta}

@@ -14,10 +14,10 @@ use Rattle.dna.specs.Answer.{refuses}
 use Rattle.kmer.specs.Kmer.{openKmer}
 use Rattle.state.specs.Counted.{fourBits, presence, openCounted}
 use Rattle.state.specs.declared.EdgeKind.the-variants.{Counted, Presence}
+use Rattle.label_index.specs.Entries.{listed, openEntries}
 use Rattle.graph.specs.Table.{tableOf, keysOf, openTable}
 use Rattle.graph.specs.Sightings.{sameCanonical, openSightings}
 use Rattle.graph.specs.Adding.{addLabel, openAdding}
-use Rattle.graph.specs.Entries.{listed, openEntries}
 use Rattle.graph.specs.Several.{openSeveral}
 use Rattle.graph.specs.Walks.{isolated, openWalks}
 use Rattle.graph.specs.Labels.{openLabels}

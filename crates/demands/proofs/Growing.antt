@@ -7,9 +7,9 @@ use lib.ListN.{take}
 use Rattle.dna.proofs.Answers.{either}
 use Rattle.lemmas.proofs.Tests.{choose}
 use Rattle.state.specs.Counted.{Kind}
+use Rattle.label_index.specs.Entries.{listed, within}
 use Rattle.graph.specs.Sightings.{Rule}
 use Rattle.graph.specs.Adding.{addLabel}
-use Rattle.graph.specs.Entries.{listed, within}
 use Rattle.graph.specs.Several.{Several, untried, addNext, addEach, addLabels}
 use Rattle.graph.proofs.Accepted.{refused-same}
 use Rattle.graph.proofs.Several.{none-after}

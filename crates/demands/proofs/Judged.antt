@@ -15,9 +15,9 @@ use Rattle.kmer.proofs.Bounds.{ok-bounds}
 use Rattle.state.specs.declared.EdgeKind.{EdgeKind}
 use Rattle.state.specs.Counted.{answersFor}
 use Rattle.state.specs.Says.{kindOf}
+use Rattle.label_index.specs.Entries.{listed, within}
 use Rattle.graph.specs.Table.{tableOf, keysOf, fitFor}
 use Rattle.graph.specs.Walks.{Ends}
-use Rattle.graph.specs.Entries.{listed, within}
 use Rattle.graph.specs.Contraction.{Totals, endsIn, contract}
 use Rattle.graph.specs.Fasta.{recordsOf, fasta}
 use Rattle.graph.proofs.Accepted.{fit-sound, fit-for-both}

@@ -3,9 +3,11 @@ pub mod Meets
 pub mod Strands
 pub mod AnyKind
 pub mod Judged
+pub mod Panels
 pub mod Program
 pub mod Every
 pub mod Programs
 pub mod Told
 pub mod ThroughC
 pub mod Example
+pub mod PanelExample

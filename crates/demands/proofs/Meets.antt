@@ -9,9 +9,9 @@ use lib.ListN.{length, getD, take}
 use Rattle.dna.specs.Answer.{gives, refuses}
 use Rattle.state.specs.declared.EdgeKind.{EdgeKind}
 use Rattle.state.specs.Says.{kindOf}
+use Rattle.label_index.specs.Entries.{listed}
 use Rattle.graph.specs.Table.{tableOf, keysOf}
 use Rattle.graph.specs.Adding.{addLabel}
-use Rattle.graph.specs.Entries.{listed}
 use Rattle.graph.specs.Walks.{isolated}
 use Rattle.graph.specs.Contraction.{Totals, Contracted, endsIn, contract}
 use Rattle.graph.proofs.Keys.{keys-copied}

@@ -10,9 +10,9 @@ use Rattle.dna.specs.Text.{over}
 use Rattle.dna.specs.Answer.{gives, Filled}
 use Rattle.kmer.specs.Kmer.{okK}
 use Rattle.state.specs.Counted.{fourBits}
+use Rattle.label_index.specs.Entries.{listed, within}
 use Rattle.graph.specs.Sightings.{sameCanonical}
 use Rattle.graph.specs.Adding.{Edges}
-use Rattle.graph.specs.Entries.{listed, within}
 use Rattle.graph.specs.Several.{Several, untried}
 use Rattle.graph.specs.Contraction.{Totals, Contracted}
 use Rattle.graph.specs.Fasta.{recordsOf, fasta}

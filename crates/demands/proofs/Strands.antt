@@ -8,10 +8,10 @@ use Rattle.dna.specs.Answer.{gives}
 use Rattle.dna.proofs.Answers.{ungiven}
 use Rattle.state.specs.declared.EdgeKind.{EdgeKind}
 use Rattle.state.specs.Says.{kindOf}
+use Rattle.label_index.specs.Entries.{listed, within}
 use Rattle.graph.specs.Table.{tableOf}
 use Rattle.graph.specs.Sightings.{reversed}
 use Rattle.graph.specs.Adding.{Edges, Added, storedAfter, addLabel}
-use Rattle.graph.specs.Entries.{listed, within}
 use Rattle.graph.specs.Several.{Several, addLabels}
 use Rattle.graph.specs.Contraction.{contract}
 use Rattle.adding.specs.declared.AddAnswer.{AddAnswer}

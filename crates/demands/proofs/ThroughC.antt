@@ -1,18 +1,19 @@
--- A call through C is one of the Rattle function whose answer it tells in numbers, so that what is proved of runs of the calls holds of runs
--- through C, in which the caller reads the figures. Assumes nothing.
+-- A call through C is one of the Rattle function whose answer it tells in numbers, so that what is proved of runs of
+-- the calls holds of runs through C, in which the caller reads the figures. Assumes nothing.
 use mathlib.Core.Path.{_≡_, refl, sym, ap, ap₂, _∙_}
 use mathlib.Core.List.{List, [], _∷_}
 use Prim.Native.Nat.{ℕ, _*_, _≤_}
 use native.Mathlib.Omega.{arith}
 use lib.ListN.{length, getD, take}
 use borrow.Author.Tests.{ne-eqb}
+use Rattle.dna.specs.Answer.{Filled}
 use Rattle.state.specs.declared.EdgeKind.the-variants as kinds
 use Rattle.state.specs.Says.{kindOf}
+use Rattle.label_index.specs.Entries.{listed}
 use Rattle.graph.specs.Table.{tableOf, keysOf}
 use Rattle.graph.specs.Adding.{addLabel}
-use Rattle.graph.specs.Entries.{listed}
 use Rattle.graph.specs.Several.{addLabels}
-use Rattle.graph.specs.Contraction.{endsIn, contract}
+use Rattle.graph.specs.Contraction.{Contracted, endsIn, contract}
 use Rattle.adding.specs.declared.AddAnswer.{AddAnswer}
 use Rattle.adding.specs.declared.AddAnswer.the-variants as one
 use Rattle.adding.specs.declared.LabelsAnswer.{LabelsAnswer}
@@ -26,6 +27,11 @@ use Rattle.contraction.specs.Says.{contractAnswer, Contracts}
 use Rattle.rules.specs.Judging.{judge}
 use Rattle.judging.specs.declared.JudgeAnswer.{JudgeAnswer}
 use Rattle.judging.specs.Answers.{judgeAnswer, Judges}
+use Rattle.panel.specs.Panel.{panel}
+use Rattle.panel.specs.Says.{panelAnswer, Panels}
+use Rattle.panel.specs.declared.PanelAnswer.{PanelAnswer}
+use Rattle.panel.specs.declared.PanelAnswer.the-variants as panels
+use Rattle.panel.proofs.Outcomes.{answered-all}
 use Rattle.capi.specs.Says.{
   edgeKindOf,
   modeOf,
@@ -35,15 +41,19 @@ use Rattle.capi.specs.Says.{
   ofEdges,
   ofTotals,
   ofVerdict,
+  ofSize,
   AddsLabel,
   AddsSeveral,
   ContractsTable,
   JudgesText,
+  FillsOut,
 }
 use Rattle.laws.specs.Demand.{Demand3}
 use Rattle.demands.specs.Calls.{excepted, Called, Called.adds, Called.adds-many, onto}
-use Rattle.demands.proofs.Told.{add-told, labels-told, contract-told, judge-told}
+use Rattle.demands.specs.Probes.{Unshared}
+use Rattle.demands.proofs.Told.{add-told, labels-told, contract-told, judge-told, panel-told}
 use Rattle.demands.proofs.Meets.{called-refused, call-meets, call-fits}
+use Rattle.demands.proofs.Panels.{panel-unshared}
 
 -- Two figures in a slice that has room for them.
 two-noted : (a b : ℕ) (slice : List ℕ) → 2 ≤ length slice
@@ -151,23 +161,30 @@ module _ (kind K cutoff n : ℕ) (keys counts labels starts lengths marks : List
         c .figures-after ∙ ap (λ a. noted (figures ofTotals a) figures₀) (sym (t .1)),
       )
 
-  -- Where 0 is returned over a table that calls have made, the labels that the index lists, as many as the first figure says, meet demand 3.
-  pub c-meets : {m : Mode} {ls : List (List ℕ)} → Called (edgeKindOf kind) m K ls n keys counts → r ≡ 0 → 2 ≤ length figures₀
-      → Demand3 K (keysOf n keys) (endsIn (kindOf (edgeKindOf kind)) cutoff (tableOf n keys counts)) (excepted m K) (listed (getD figures′ 0 0) labels′ starts′ lengths′)
-  c-meets {m} {ls} g z room = go (c-contracts .0) (c-contracts .1) (c-contracts .2) (c-contracts .3)
+  abbrev result : Contracted
+  result = contract (kindOf (edgeKindOf kind)) K cutoff n keys counts labels starts lengths marks
+
+  -- Where 0 is returned, it is a call that was not refused, and the first figure is the number of labels.
+  pub c-contracted : r ≡ 0 → 2 ≤ length figures₀
+      → (bases : ℕ) × Contracts (all.Contracted (getD figures′ 0 0) bases) labels′ starts′ lengths′ marks′ result
+  c-contracted z room = go (c-contracts .0) (c-contracts .1) (c-contracts .2) (c-contracts .3)
     where
-      go : (a : ContractAnswer)
-          → Contracts a labels′ starts′ lengths′ marks′ (contract (kindOf (edgeKindOf kind)) K cutoff n keys counts labels starts lengths marks)
-          → r ≡ numberOf (contractAnswer a) → figures′ ≡ noted (figures ofTotals (contractAnswer a)) figures₀
-          → Demand3 K (keysOf n keys) (endsIn (kindOf (edgeKindOf kind)) cutoff (tableOf n keys counts)) (excepted m K) (listed (getD figures′ 0 0) labels′ starts′ lengths′)
-      go (all.Contracted number bases) a q f =
-          rw (f, two-noted number bases figures₀ room .0) (call-meets (edgeKindOf kind) K cutoff n keys counts labels starts lengths marks a refl g)
+      go : (a : ContractAnswer) → Contracts a labels′ starts′ lengths′ marks′ result → r ≡ numberOf (contractAnswer a)
+          → figures′ ≡ noted (figures ofTotals (contractAnswer a)) figures₀
+          → (bases : ℕ) × Contracts (all.Contracted (getD figures′ 0 0) bases) labels′ starts′ lengths′ marks′ result
+      go (all.Contracted number bases) a q f = rw (f, two-noted number bases figures₀ room .0) (bases, a)
       go (all.UnsupportedK k) a q f = absurd (omega arith)
       go all.Unfit a q f = absurd (omega arith)
       go all.WrongCutoff a q f = absurd (omega arith)
       go all.FewMarks a q f = absurd (omega arith)
       go all.MissingVertex a q f = absurd (omega arith)
       go all.NoRoom a q f = absurd (omega arith)
+
+  -- Over a table that calls have made, the labels that the index then lists meet demand 3.
+  pub c-meets : {m : Mode} {ls : List (List ℕ)} → Called (edgeKindOf kind) m K ls n keys counts → r ≡ 0 → 2 ≤ length figures₀
+      → Demand3 K (keysOf n keys) (endsIn (kindOf (edgeKindOf kind)) cutoff (tableOf n keys counts)) (excepted m K) (listed (getD figures′ 0 0) labels′ starts′ lengths′)
+  c-meets g z room =
+      call-meets (edgeKindOf kind) K cutoff n keys counts labels starts lengths marks (c-contracted z room .1) refl g
 
   -- With room for n times K bases and n entries 9 is never returned.
   pub c-fits : K * n ≤ length labels → n ≤ length starts → n ≤ length lengths → r ≡ 9 → ⊥
@@ -198,3 +215,50 @@ c-judges kind K cutoff n keys counts text marks {figures₀ = figures₀} c =
       c .number ∙ ap numberOf (sym (t .1)),
       c .figures-after ∙ ap (λ a. noted (figures ofVerdict a) figures₀) (sym (t .1)),
     )
+
+-- ---- `lash_panel`
+
+module _ (K cutoff L least most : ℕ) (labels starts lengths : List ℕ) (count : ℕ) (out : List ℕ)
+    {r : ℕ} {out′ figures₀ figures′ : List ℕ}
+    (c : FillsOut r out′ figures₀ figures′ (panel K cutoff L least most labels starts lengths count out)) where
+  abbrev asked : Filled
+  asked = panel K cutoff L least most labels starts lengths count out
+
+  -- The call of `panel` that it is; `answered-says` of panel/proofs/Outcomes.antt and `answers-unshared` of
+  -- Panels.antt speak of that.
+  pub c-panels : (a : PanelAnswer) × Panels a out′ asked × (r ≡ numberOf (panelAnswer a))
+      × (figures′ ≡ noted (figures ofSize (panelAnswer a)) figures₀)
+  c-panels =
+      let t = panel-told K cutoff L least most labels starts lengths count out in (
+        t .0,
+        record { answer = t .1; slice = c .out-after },
+        c .number ∙ ap numberOf (sym (t .1)),
+        c .figures-after ∙ ap (λ a. noted (figures ofSize a) figures₀) (sym (t .1)),
+      )
+
+  -- Where 0 is returned, all labels were answered.
+  pub c-answered : r ≡ 0 → Panels (panels.Answered count) out′ asked
+  c-answered z = go (c-panels .0) (c-panels .1) (c-panels .2)
+    where
+      go : (a : PanelAnswer) → Panels a out′ asked → r ≡ numberOf (panelAnswer a)
+          → Panels (panels.Answered count) out′ asked
+      go (panels.Answered m) a q = rw (answered-all K cutoff L least most labels starts lengths count out a refl) at a
+      go panels.OutOfProfile a q = absurd (omega arith)
+      go panels.WrongBounds a q = absurd (omega arith)
+      go panels.OutOfLabels a q = absurd (omega arith)
+      go panels.NoRoom a q = absurd (omega arith)
+
+-- A call of `lash_contract` and one of `lash_panel` over its list at the same K, as many labels as the first figure
+-- says: where both return 0, the answers share no k-mer.
+module _ (kind K cutoff n : ℕ) (keys counts labels starts lengths marks : List ℕ)
+    {r : ℕ} {labels′ starts′ lengths′ marks′ figures₀ figures′ : List ℕ}
+    (c : ContractsTable r labels′ starts′ lengths′ marks′ figures₀ figures′
+    (contract (kindOf (edgeKindOf kind)) K cutoff n keys counts labels starts lengths marks))
+    (said L least most : ℕ) (out : List ℕ) {s : ℕ} {out′ figures₁ figures″ : List ℕ}
+    (p : FillsOut s out′ figures₁ figures″
+    (panel K said L least most labels′ starts′ lengths′ (getD figures′ 0 0) out)) where
+  pub c-unshared : r ≡ 0 → 2 ≤ length figures₀ → s ≡ 0 → Unshared K L labels′ starts′ lengths′ (getD figures′ 0 0) out′
+  c-unshared z room y =
+      panel-unshared (edgeKindOf kind) K cutoff n keys counts labels starts lengths marks
+      (c-contracted kind K cutoff n keys counts labels starts lengths marks c z room .1) refl said L least most out
+      (c-answered K said L least most labels′ starts′ lengths′ (getD figures′ 0 0) out p y) refl

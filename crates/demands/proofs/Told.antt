@@ -1,4 +1,5 @@
--- Each answer of the definitions of adding, of contraction and of the judgement is told by a case of the calls' enums. Assumes nothing.
+-- Each answer of the definitions of adding, of contraction, of the judgement and of a panel is told by a case of the
+-- calls' enums. Assumes nothing.
 use mathlib.Core.Path.{_≡_, refl}
 use mathlib.Core.Bool.{not, _||_}
 use mathlib.Core.List.{List, [], _∷_}
@@ -7,14 +8,14 @@ use lib.Dec.{ltb, eqb}
 use lib.ListN.{length}
 use Rattle.lemmas.proofs.Tests.{choose}
 use Rattle.dna.specs.Letters.{isBase, firstBad}
-use Rattle.dna.specs.Answer.{Answer, gives}
+use Rattle.dna.specs.Answer.{Answer, gives, Filled}
 use Rattle.dna.proofs.Answers.{either}
 use Rattle.kmer.specs.Kmer.{okK}
 use Rattle.state.specs.Counted.{Kind, answersFor}
+use Rattle.label_index.specs.Entries.{listed, within}
 use Rattle.graph.specs.Table.{tableOf, keysOf, capacity, fitFor}
 use Rattle.graph.specs.Sightings.{Rule}
 use Rattle.graph.specs.Adding.{Edges, Added, added, addBases, addLabel}
-use Rattle.graph.specs.Entries.{listed, within}
 use Rattle.graph.specs.Several.{Several, untried, addNext, addEach, addLabels}
 use Rattle.graph.specs.Labels.{Run, run}
 use Rattle.graph.specs.Contraction.{Contracted, endToEnd, endsIn, written, finish, contract}
@@ -32,6 +33,11 @@ use Rattle.rules.specs.Judging.{Judgement, onList, judge}
 use Rattle.judging.specs.declared.JudgeAnswer.{JudgeAnswer}
 use Rattle.judging.specs.declared.JudgeAnswer.the-variants as judged
 use Rattle.judging.specs.Answers.{judgeAnswer}
+use Rattle.panel.specs.Probes.{between}
+use Rattle.panel.specs.Panel.{inProfile, firstStarts, panel}
+use Rattle.panel.specs.Says.{panelAnswer}
+use Rattle.panel.specs.declared.PanelAnswer.{PanelAnswer}
+use Rattle.panel.specs.declared.PanelAnswer.the-variants as panels
 
 -- ---- adding
 
@@ -133,3 +139,21 @@ module _ (κ : Kind) (K cutoff n : ℕ) (keys counts text marks : List ℕ) wher
       (λ _. choose ToldOf (not (answersFor κ cutoff)) (λ _. (judged.WrongCutoff, refl))
       (λ _. choose ToldOf (ltb (length marks) n) (λ _. (judged.FewMarks, refl))
       (λ _. choose ToldOf (eqb (K % 2) 0) (λ _. (judged.EvenK, refl)) (λ _. list-told (listing K text))))))
+
+-- ---- a panel
+
+abbrev ToldFor : Filled → Type 0
+ToldFor f = (x : PanelAnswer) × (panelAnswer x ≡ f .answer)
+
+pub panel-told : (K cutoff L least most : ℕ) (labels starts lengths : List ℕ) (count : ℕ) (out : List ℕ)
+    → ToldFor (panel K cutoff L least most labels starts lengths count out)
+unfolding panel
+panel-told K cutoff L least most labels starts lengths count out =
+    choose ToldFor (inProfile K cutoff L)
+    (λ _. choose ToldFor (between least most L)
+    (λ _. choose ToldFor (within labels count starts lengths)
+    (λ _. choose ToldFor (ltb (length out) (length (firstStarts L least most labels starts lengths count)))
+    (λ _. (panels.NoRoom, refl)) (λ _. (panels.Answered _, refl)))
+    (λ _. (panels.OutOfLabels, refl)))
+    (λ _. (panels.WrongBounds, refl)))
+    (λ _. (panels.OutOfProfile, refl))

@@ -5,9 +5,9 @@ use mathlib.Core.List.{List, [], _∷_}
 use lib.ListN.{take}
 use Rattle.state.specs.declared.EdgeKind.{EdgeKind}
 use Rattle.state.specs.Says.{kindOf}
+use Rattle.label_index.specs.Entries.{listed}
 use Rattle.graph.specs.Adding.{storedAfter, addLabel}
 use Rattle.graph.specs.Table.{tableOf}
-use Rattle.graph.specs.Entries.{listed}
 use Rattle.graph.specs.Several.{addLabels}
 use Rattle.adding.specs.declared.AddAnswer.{AddAnswer}
 use Rattle.adding.specs.declared.AddAnswer.the-variants as one

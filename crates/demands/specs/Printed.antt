@@ -7,11 +7,11 @@ use lib.ListN.{length}
 use Rattle.dna.specs.Answer.{gives, refuses}
 use Rattle.kmer.specs.Kmer.{okK}
 use Rattle.state.specs.Counted.{fourBits}
+use Rattle.label_index.specs.Entries.{listed}
 use Rattle.graph.specs.Table.{tableOf, keysOf}
 use Rattle.graph.specs.Walks.{Ends}
 use Rattle.graph.specs.Sightings.{sameCanonical}
 use Rattle.graph.specs.Adding.{Edges}
-use Rattle.graph.specs.Entries.{listed}
 use Rattle.graph.specs.Several.{Several, untried, addEach}
 use Rattle.graph.specs.Contraction.{Totals, Contracted, endsIn, contract}
 use Rattle.graph.specs.Fasta.{recordsOf}

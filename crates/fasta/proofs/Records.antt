@@ -10,9 +10,9 @@ use borrow.Author.Tests.{leb-true}
 use lib.Dec.{leb}
 use lib.ListN.{length, getD, take, drop, length-append, length-take, length-drop}
 use Rattle.lemmas.proofs.Tests.{both}
-use Rattle.graph.specs.Entries.{listed, within}
+use Rattle.label_index.specs.Entries.{labelAt, listed, within}
+use Rattle.label_index.proofs.Entries.{listed-next}
 use Rattle.graph.specs.Fasta.{recordOf, recordsOf}
-use Rattle.graph.proofs.Entries.{labelAt, listed-next}
 use Rattle.fasta.specs.Sizes.{sizeOf}
 
 -- The record of one label.

@@ -8,7 +8,7 @@ use borrow.Author.Tests.{lt-ltb, le-ltb}
 use lib.ListN.{length}
 use Rattle.dna.specs.Text.{over}
 use Rattle.dna.specs.Answer.{Filled}
-use Rattle.graph.specs.Entries.{listed, within}
+use Rattle.label_index.specs.Entries.{listed, within}
 use Rattle.graph.specs.Fasta.{recordsOf, fasta}
 use Rattle.fasta.specs.Sizes.{sizeOf}
 use Rattle.fasta.specs.Says.{fastaAnswer, Lists}

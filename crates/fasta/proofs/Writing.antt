@@ -7,12 +7,12 @@ use native.Mathlib.Omega.{arith}
 use borrow.Rule.Slice.PartMut.{midOf, putMid}
 use lib.ListN.{length, getD, take, drop, length-append}
 use Rattle.dna.specs.Text.{over}
-use Rattle.graph.specs.Entries.{listed, within}
+use Rattle.label_index.specs.Entries.{listed, within}
+use Rattle.label_index.proofs.Entries.{within-long, within-at, within-all}
 use Rattle.graph.specs.Fasta.{recordOf, recordsOf}
 use Rattle.fasta.specs.Sizes.{sizeOf}
 use Rattle.dna.proofs.Overwriting.{length-over}
 use Rattle.fasta.proofs.Over.{over-rest}
-use Rattle.graph.proofs.Entries.{within-long, within-at, within-all}
 use Rattle.fasta.proofs.Records.{length-record, length-label, sizes-next, sizes-le, records-next, records-size}
 
 -- The slice has the records of the first i entries, and at is the place behind them.

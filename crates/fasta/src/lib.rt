@@ -1,48 +1,23 @@
 // The list of labels as FASTA.
 ghost use mathlib.Core.Path.{_≡_};
 ghost use mathlib.Core.Bool.{true};
-ghost use Prim.Native.Nat.{_+_, _^_, _≤_, _<_};
+ghost use Prim.Native.Nat.{_+_, _≤_};
 ghost use lib.Dec.{leb};
 ghost use lib.ListN.{length};
 ghost use Rattle.dna.specs.Text.{over};
-ghost use Rattle.graph.specs.Entries.{listed, within};
+ghost use Rattle.label_index.specs.Entries.{listed, within};
 ghost use Rattle.graph.specs.Fasta.{recordOf, recordsOf, fasta};
 ghost use Rattle.fasta.specs.Sizes.{sizeOf};
 ghost use Rattle.fasta.specs.Says.{Lists};
 use dna::copy;
+use label_index::lie_within;
+use label_index::wide;
 
 // The bytes written; the text exceeds its slice; an index slice is shorter than the count, or an entry lies past the labels.
 pub enum FastaAnswer {
     Written(usize),
     NoRoom,
     OutOfLabels,
-}
-
-// An index entry's number as a place.
-fn wide(x: u32) -> usize
-    ensures { λ r. ⌜ (r ≡ x) × (r < 2 ^ 32) ⌝ }
-{
-    x as usize
-}
-
-// Each of the first count entries is there and lies within the labels.
-pub fn lie_within(labels: &[u8], starts: &[u32], lengths: &[u32], count: usize) -> bool
-    ensures { λ r. ⌜ r ≡ within (now (labels .entry)) count (now (starts .entry)) (now (lengths .entry)) ⌝ }
-{
-    if starts.len() < count {
-        return false;
-    }
-    if lengths.len() < count {
-        return false;
-    }
-    let mut i = 0;
-    while i < count {
-        if labels.len() < wide(starts[i]) + wide(lengths[i]) {
-            return false;
-        }
-        i += 1;
-    }
-    true
 }
 
 // The records of the first count entries have room. What is left of the room is counted down, so that no sum can wrap.

@@ -11,6 +11,5 @@ pub mod Packed
 pub mod Clean
 pub mod AnyOrder
 pub mod Accepted
-pub mod Entries
 pub mod Several
 pub mod Labels

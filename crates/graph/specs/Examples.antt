@@ -13,10 +13,10 @@ use Rattle.kmer.specs.Kmer.{packed, openKmer}
 use Rattle.kmer.specs.Calls.{packCall, reverseCall, openCalls}
 use Rattle.state.specs.declared.Side.the-variants.{Back}
 use Rattle.state.specs.Counted.{Kind, fourBits, openCounted}
+use Rattle.label_index.specs.Entries.{openEntries}
 use Rattle.graph.specs.Table.{keysOf, tableOf, openTable}
 use Rattle.graph.specs.Sightings.{Rule, sameCanonical, openSightings}
 use Rattle.graph.specs.Adding.{Edges, addLabel, storedAfter, openAdding}
-use Rattle.graph.specs.Entries.{openEntries}
 use Rattle.graph.specs.Walks.{closed, walk, openWalks}
 use Rattle.graph.specs.Labels.{openLabels}
 use Rattle.graph.specs.Contraction.{Totals, endsIn, contract, openContraction}

@@ -4,7 +4,7 @@ use mathlib.Core.Bool.{cond}
 use mathlib.Core.List.{List, [], _∷_, _++_}
 use Rattle.dna.specs.Text.{bytes}
 use Rattle.dna.specs.Answer.{refuses, Filled, fill}
-use Rattle.graph.specs.Entries.{listed, within}
+use Rattle.label_index.specs.Entries.{listed, within}
 
 -- `>0`, newline, label, newline.
 abbrev pub recordOf : List ℕ → List ℕ

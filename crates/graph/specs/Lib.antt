@@ -1,7 +1,6 @@
 pub mod Table
 pub mod Sightings
 pub mod Adding
-pub mod Entries
 pub mod Several
 pub mod Walks
 pub mod Labels

@@ -8,10 +8,10 @@ use Rattle.dna.specs.Letters.{openLetters}
 use Rattle.dna.specs.Order.{openOrder}
 use Rattle.kmer.specs.Kmer.{openKmer}
 use Rattle.state.specs.Counted.{fourBits, openCounted}
+use Rattle.label_index.specs.Entries.{openEntries}
 use Rattle.graph.specs.Table.{openTable}
 use Rattle.graph.specs.Sightings.{reversed, openSightings}
 use Rattle.graph.specs.Adding.{openAdding}
-use Rattle.graph.specs.Entries.{openEntries}
 use Rattle.graph.specs.Walks.{openWalks}
 use Rattle.graph.specs.Labels.{openLabels}
 use Rattle.graph.specs.Contraction.{openContraction}

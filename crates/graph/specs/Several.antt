@@ -4,9 +4,9 @@ use mathlib.Core.Bool.{cond}
 use mathlib.Core.List.{List, [], _∷_}
 use Rattle.dna.specs.Answer.{Answer, gives, refuses}
 use Rattle.state.specs.Counted.{Kind}
+use Rattle.label_index.specs.Entries.{listed, within}
 use Rattle.graph.specs.Sightings.{Rule}
 use Rattle.graph.specs.Adding.{Edges, addLabel}
-use Rattle.graph.specs.Entries.{listed, within}
 
 -- The answer to the last label that was tried, how many were added, the number stored after them, and the two lent slices.
 pub record Several : Type 0 where

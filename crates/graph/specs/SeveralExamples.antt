@@ -8,10 +8,10 @@ use Rattle.dna.specs.Letters.{openLetters}
 use Rattle.dna.specs.Answer.{Answer, gives, refuses}
 use Rattle.kmer.specs.Kmer.{openKmer}
 use Rattle.state.specs.Counted.{fourBits, openCounted}
+use Rattle.label_index.specs.Entries.{openEntries}
 use Rattle.graph.specs.Table.{openTable}
 use Rattle.graph.specs.Sightings.{sameCanonical, openSightings}
 use Rattle.graph.specs.Adding.{Edges, openAdding}
-use Rattle.graph.specs.Entries.{openEntries}
 use Rattle.graph.specs.Several.{Several, addLabels, openSeveral}
 
 -- The number stored, the keys' words and the counts.

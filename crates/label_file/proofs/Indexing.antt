@@ -5,11 +5,11 @@ use mathlib.Core.List.{List, [], _∷_, _++_, append-assoc, append-nil}
 use Prim.Native.Nat.{ℕ, _+_, _*_, _≤_, _<_}
 use native.Mathlib.Omega.{arith}
 use lib.ListN.{length, take, drop, set, length-set}
-use Rattle.graph.specs.Entries.{listed, within}
+use Rattle.label_index.specs.Entries.{listed, within}
+use Rattle.label_index.proofs.Entries.{listed-more, within-more}
 use Rattle.label_file.specs.LabelFile.{two, fileOf, labelsOf}
 use Rattle.label_file.specs.Says.{Sound, Indexes}
 use Rattle.label_file.proofs.Unread.{Unread, Next, unread-all, unread-none, unread-next}
-use Rattle.graph.proofs.Entries.{listed-more, within-more}
 
 -- Entry i is for record i + 1, the first unread one, which stands at place `at`: each record before it has at least four bytes.
 pub record SomeIndexed (file : List ℕ) (i at : ℕ) (starts lengths : List ℕ) : Type 0 where

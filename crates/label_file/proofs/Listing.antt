@@ -7,8 +7,8 @@ use lib.ListN.{length}
 use Rattle.dna.specs.Answer.{gives, refuses, Filled, fill}
 use Rattle.dna.proofs.Answers.{ungiven}
 use Rattle.state.specs.Counted.{fourBits}
+use Rattle.label_index.specs.Entries.{listed, within}
 use Rattle.graph.specs.Contraction.{contract, Contracted, Totals}
-use Rattle.graph.specs.Entries.{listed, within}
 use Rattle.graph.specs.Fasta.{recordsOf, fasta}
 use Rattle.lemmas.proofs.Tests.{choose}
 use Rattle.fasta.specs.declared.FastaAnswer.{FastaAnswer}

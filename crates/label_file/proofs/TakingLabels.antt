@@ -6,10 +6,10 @@ use native.Mathlib.Numerals.{add-one}
 use native.Mathlib.Omega.{arith}
 use lib.ListN.{length}
 use Rattle.state.specs.Counted.{fourBits}
+use Rattle.label_index.proofs.Entries.{listed-few}
 use Rattle.graph.specs.Sightings.{sameCanonical}
 use Rattle.graph.specs.Adding.{Edges}
 use Rattle.graph.specs.Several.{Several, untried, addEach, addLabels}
-use Rattle.graph.proofs.Entries.{listed-few}
 use Rattle.graph.proofs.Several.{each-few}
 use Rattle.adding.specs.declared.AddAnswer.{AddAnswer}
 use Rattle.adding.specs.declared.LabelsAnswer.{LabelsAnswer}

@@ -10,10 +10,10 @@ use Rattle.dna.proofs.Inside.{Inside, refused-inside, fill-inside}
 use Rattle.dna.proofs.Answers.{either}
 use Rattle.kmer.specs.Kmer.{okK}
 use Rattle.state.specs.Counted.{fourBits}
+use Rattle.label_index.specs.Entries.{listed, within}
 use Rattle.graph.specs.Sightings.{sameCanonical}
 use Rattle.graph.specs.Several.{untried, addEach}
 use Rattle.graph.specs.Contraction.{Contracted}
-use Rattle.graph.specs.Entries.{listed, within}
 use Rattle.graph.specs.Fasta.{recordsOf, fasta}
 use Rattle.rules.specs.Judging.{judge}
 use Rattle.label_file.specs.LabelFile.{LabelFile, damaged, holds, fileOf}

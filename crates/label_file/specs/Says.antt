@@ -6,8 +6,8 @@ use mathlib.Core.List.{List, []}
 use lib.ListN.{drop}
 use Rattle.dna.specs.Answer.{Answer, gives, refuses, Filled}
 use Rattle.kmer.specs.Kmer.{okK}
+use Rattle.label_index.specs.Entries.{listed, within}
 use Rattle.graph.specs.Adding.{Edges}
-use Rattle.graph.specs.Entries.{listed, within}
 use Rattle.graph.specs.Several.{Several}
 use Rattle.label_file.specs.LabelFile.{damaged, holds, kIn, cutoffIn, fileOf, labelsOf}
 use Rattle.label_file.specs.Output.{Buffers, Left, decimal, refused}

@@ -12,10 +12,10 @@ use Rattle.dna.specs.Answer.{gives}
 use Rattle.kmer.specs.Kmer.{openKmer}
 use Rattle.state.specs.declared.Side.the-variants.{Back}
 use Rattle.state.specs.Counted.{fourBits, openCounted}
+use Rattle.label_index.specs.Entries.{listed, openEntries}
 use Rattle.graph.specs.Table.{tableOf, keysOf, openTable}
 use Rattle.graph.specs.Sightings.{sameCanonical, openSightings}
 use Rattle.graph.specs.Adding.{openAdding}
-use Rattle.graph.specs.Entries.{listed, openEntries}
 use Rattle.graph.specs.Walks.{openWalks}
 use Rattle.graph.specs.Labels.{openLabels}
 use Rattle.graph.specs.Contraction.{Contracted, endsIn, contract, openContraction}

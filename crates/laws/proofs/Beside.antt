@@ -11,10 +11,10 @@ use Rattle.dna.specs.Letters.{firstBad}
 use Rattle.dna.proofs.Answers.{either}
 use Rattle.kmer.specs.Kmer.{okK, canon}
 use Rattle.state.specs.Counted.{Kind, top, answersFor}
+use Rattle.label_index.specs.Entries.{listed, within}
 use Rattle.graph.specs.Table.{Table, tableOf, wordsOf, capacity, fitFor, stored, rank, insertAt, store}
 use Rattle.graph.specs.Sightings.{Rule, window, windows}
 use Rattle.graph.specs.Adding.{Edges, Added, storedAfter, storeWindows, added, unchanged, changed, addBases, addLabel}
-use Rattle.graph.specs.Entries.{listed, within}
 use Rattle.graph.specs.Several.{Several, untried, addNext, addEach, addLabels}
 use Rattle.graph.specs.Contraction.{contract}
 use Rattle.graph.proofs.Store.{store-either}

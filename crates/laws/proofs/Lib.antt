@@ -23,6 +23,7 @@ pub mod Readings
 pub mod Plain
 pub mod Labelled
 pub mod Occurrences
+pub mod Shares
 pub mod Room
 pub mod Indexed
 pub mod Apart

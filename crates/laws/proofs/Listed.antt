@@ -13,8 +13,8 @@ use Rattle.lemmas.proofs.Tests.{choose}
 use Rattle.dna.specs.Answer.{gives}
 use Rattle.kmer.specs.Kmer.{okK}
 use Rattle.state.specs.Counted.{Kind, answersFor}
+use Rattle.label_index.specs.Entries.{listed, within}
 use Rattle.graph.specs.Table.{tableOf, keysOf, fit, fitFor}
-use Rattle.graph.specs.Entries.{listed, within}
 use Rattle.graph.specs.Walks.{Ends}
 use Rattle.graph.specs.Labels.{Run, run}
 use Rattle.graph.specs.Contraction.{Entry, Totals, Contracted, entries, sorted, endToEnd, endsIn, written, finish, contract}

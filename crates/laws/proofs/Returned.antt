@@ -13,8 +13,8 @@ use Rattle.dna.specs.Answer.{gives, refuses}
 use Rattle.kmer.specs.Kmer.{okK}
 use Rattle.state.specs.declared.Side.the-variants.{Front, Back}
 use Rattle.state.specs.Counted.{Kind, answersFor}
+use Rattle.label_index.specs.Entries.{listed}
 use Rattle.graph.specs.Table.{tableOf, keysOf, fitFor}
-use Rattle.graph.specs.Entries.{listed}
 use Rattle.graph.specs.Walks.{Ends, walk, visited, isolated}
 use Rattle.graph.specs.Labels.{Run, labelOf, extract, run}
 use Rattle.graph.specs.Contraction.{Totals, Contracted, refused, endToEnd, endsIn, finish, written, contract}

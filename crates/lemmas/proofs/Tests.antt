@@ -1,9 +1,10 @@
 -- Tests: what follows from the value of a Bool. Assumes nothing.
-use mathlib.Core.Path.{_≡_, refl, sym}
-use mathlib.Core.Bool.{Bool, true, false, cond, _&&_, _||_, false≢true}
+use mathlib.Core.Path.{_≡_, refl, sym, _∙_}
+use mathlib.Core.Bool.{Bool, true, false, not, cond, _&&_, _||_, false≢true}
 use mathlib.Core.Logic.{_⊎_, inl, inr}
 use Prim.Native.Nat.{ℕ}
 use native.Mathlib.Omega.{arith}
+use borrow.Author.Tests.{not-true, not-false}
 
 -- What holds of each arm under its test holds of the chosen one.
 pub choose : {A : Type 0} (P : A → Type 0) (t : Bool) {x y : A} → (t ≡ true → P x) → (t ≡ false → P y) → P (cond t x y)
@@ -43,3 +44,10 @@ same-bool false false f g = refl
 -- No test is both true and false.
 pub never : {P : Type 0} (b : Bool) → b ≡ true → b ≡ false → P
 never b p q = let z : _≡_ {A = ℕ} 0 1 = cc in absurd (omega arith)
+
+-- A test t of the code that answers a definition's u, after `if !t`: passed, or not.
+pub passed : {t u : Bool} → t ≡ u → not t ≡ false → u ≡ true
+passed {t} e h = sym e ∙ not-false t h
+
+pub failed : {t u : Bool} → t ≡ u → not t ≡ true → u ≡ false
+failed {t} e h = sym e ∙ not-true t h

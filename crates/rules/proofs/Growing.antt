@@ -11,11 +11,11 @@ use Rattle.kmer.specs.Kmer.{canon}
 use Rattle.state.specs.declared.Side.{Side}
 use Rattle.state.specs.Counted.{Kind, slotOf, count, edgeAt}
 use Rattle.state.proofs.Edges.{edge-base}
+use Rattle.label_index.specs.Entries.{listed}
 use Rattle.graph.specs.Table.{tableOf, keysOf, fitFrom, rank}
 use Rattle.graph.specs.Sightings.{Rule}
 use Rattle.graph.specs.Walks.{Ends, edge, entrance}
 use Rattle.graph.specs.Labels.{run}
-use Rattle.graph.specs.Entries.{listed}
 use Rattle.graph.specs.Contraction.{Totals, Contracted, endsIn, contract}
 use Rattle.graph.proofs.Rank.{stored-lt}
 use Rattle.graph.proofs.Accepted.{fit-length, fit-sound}

@@ -13,10 +13,10 @@ use Rattle.dna.specs.Answer.{gives}
 use Rattle.kmer.specs.Kmer.{okK}
 use Rattle.kmer.proofs.Bounds.{ok-bounds}
 use Rattle.state.specs.Counted.{Kind, answersFor}
+use Rattle.label_index.specs.Entries.{listed}
 use Rattle.graph.specs.Table.{tableOf, keysOf, fitFor}
 use Rattle.graph.specs.Sightings.{Rule}
 use Rattle.graph.specs.Walks.{Ends}
-use Rattle.graph.specs.Entries.{listed}
 use Rattle.graph.specs.Contraction.{Totals, Contracted, endsIn, contract}
 use Rattle.graph.specs.Fasta.{recordsOf}
 use Rattle.graph.proofs.Accepted.{fit-sound, fit-for-both}

@@ -121,6 +121,14 @@ module _ (K : ℕ) where
       begin : (h : List ℕ) → among 10 h ≡ false → among 10 (62 ∷ h) ≡ false
       begin h q = unfold among in q
 
+  -- So it holds one list.
+  pub one-list : {text : List ℕ} {ls ms : List (List ℕ)} → Lists K text ls → Lists K text ms → ls ≡ ms
+  one-list h g = ap labelsIn (sym (listing-complete h) ∙ listing-complete g)
+    where
+      labelsIn : Listing → List (List ℕ)
+      labelsIn (holds ls) = ls
+      labelsIn noList = []
+
   pub lists-labels : {text : List ℕ} {ls : List (List ℕ)} → Lists K text ls → Each (Label K) ls
   lists-labels none = nothing
   lists-labels (one header label n p r) = first p (lists-labels r)

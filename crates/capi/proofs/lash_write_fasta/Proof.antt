@@ -1,7 +1,8 @@
 -- Each case has its number and its figure. Assumes nothing.
 use mathlib.Core.Path.{refl}
+use Rattle.fasta.specs.Says.{fastaAnswer}
 use Rattle.capi.proofs.Noting.{noted-none}
-use Rattle.capi.proofs.Answering.{writes}
+use Rattle.capi.proofs.Answering.{fills}
 use borrow.Author.Needs.{needs}
 use Rattle.capi.proofs.lash_write_fasta.Statement.{statement}
 use Rattle.capi.proofs.lash_write_fasta.Tie as tie
@@ -9,18 +10,18 @@ use Rattle.capi.proofs.lash_write_fasta.Tie as tie
 returns : tie.Need-returns
 returns c =
     let told = c .before .before .before .before .before in
-    let call = told .before .before .before .before in
-    writes (call .write-fasta .ensures) (told .n .given .1) refl (c .before .before .note .ensures)
+    let call = told .before .before .before .before .write-fasta .ensures in
+    fills fastaAnswer (call .answer) (call .slice) (told .n .given .1) refl (c .before .before .note .ensures)
 
 returns-2 : tie.Need-returns-2
 returns-2 c =
-    let call = c .before .before .before .before in
-    writes (call .write-fasta .ensures) (c .enum-told .given .1) refl (noted-none _)
+    let call = c .before .before .before .before .write-fasta .ensures in
+    fills fastaAnswer (call .answer) (call .slice) (c .enum-told .given .1) refl (noted-none _)
 
 returns-3 : tie.Need-returns-3
 returns-3 c =
-    let call = c .before .before .before .before in
-    writes (call .write-fasta .ensures) (c .enum-told2 .given .1) refl (noted-none _)
+    let call = c .before .before .before .before .write-fasta .ensures in
+    fills fastaAnswer (call .answer) (call .slice) (c .enum-told2 .given .1) refl (noted-none _)
 
 pub lash-write-fasta-spec : {M : Type 1} → statement M
 lash-write-fasta-spec =

@@ -1,7 +1,7 @@
 -- The two tests choose the answer. Assumes nothing.
 use mathlib.Core.Path.{sym, _∙_}
 use borrow.Author.Tests.{leb-true, leb-false, not-true, not-false}
-use Rattle.graph.proofs.Entries.{within-long}
+use Rattle.label_index.proofs.Entries.{within-long}
 use Rattle.fasta.proofs.Says.{lists-outside, lists-none, lists-all}
 use borrow.Author.Needs.{needs}
 use Rattle.fasta.proofs.write_fasta.Statement.{statement}

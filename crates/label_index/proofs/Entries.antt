@@ -10,7 +10,7 @@ use borrow.Author.Tests.{leb-true, le-leb}
 use lib.Dec.{leb}
 use lib.ListN.{length, getD, take, drop, set}
 use Rattle.lemmas.proofs.Tests.{both}
-use Rattle.graph.specs.Entries.{listed, within}
+use Rattle.label_index.specs.Entries.{labelAt, listed, within}
 
 -- No more labels are listed than entries are asked for.
 pub listed-few : (count : ℕ) (text starts lengths : List ℕ) → length (listed count text starts lengths) ≤ count
@@ -21,12 +21,8 @@ listed-few (suc count) text (s ∷ starts) [] = omega arith
 listed-few (suc count) text (s ∷ starts) (n ∷ lengths) = omega (arith, listed-few count text starts lengths)
 
 module _ (text : List ℕ) where
-  -- The label of one entry.
-  abbrev pub labelAt : List ℕ → List ℕ → ℕ → List ℕ
-  labelAt starts lengths i = take (getD lengths i 0) (drop (getD starts i 0) text)
-
   listed-one : (i : ℕ) (starts lengths : List ℕ) → i < length starts → i < length lengths
-      → listed (suc i) text starts lengths ≡ listed i text starts lengths ++ (labelAt starts lengths i ∷ [])
+      → listed (suc i) text starts lengths ≡ listed i text starts lengths ++ (labelAt text starts lengths i ∷ [])
   unfolding listed
   listed-one i [] lengths a b = absurd (not-suc-le-zero a)
   listed-one i (s ∷ starts) [] a b = absurd (not-suc-le-zero b)
@@ -36,8 +32,29 @@ module _ (text : List ℕ) where
 
   -- One entry more lists one label more.
   pub listed-next : (i : ℕ) (starts lengths : List ℕ) → i < length starts → i < length lengths
-      → listed (i + 1) text starts lengths ≡ listed i text starts lengths ++ (labelAt starts lengths i ∷ [])
+      → listed (i + 1) text starts lengths ≡ listed i text starts lengths ++ (labelAt text starts lengths i ∷ [])
   listed-next i starts lengths a b = rw (add-one i) (listed-one i starts lengths a b)
+
+  -- As many labels as entries are asked for,
+  pub length-listed : (count : ℕ) (starts lengths : List ℕ) → count ≤ length starts → count ≤ length lengths
+      → length (listed count text starts lengths) ≡ count
+  unfolding listed
+  length-listed zero starts lengths a b = refl
+  length-listed (suc count) [] lengths a b = absurd (not-suc-le-zero a)
+  length-listed (suc count) (s ∷ starts) [] a b = absurd (not-suc-le-zero b)
+  length-listed (suc count) (s ∷ starts) (n ∷ lengths) a b =
+      ap suc (length-listed count starts lengths (le-of-suc-le-suc a) (le-of-suc-le-suc b))
+
+  -- and in each place that of its entry.
+  pub listed-at : (count : ℕ) (starts lengths : List ℕ) → count ≤ length starts → count ≤ length lengths
+      → (i : ℕ) → i < count → getD (listed count text starts lengths) i [] ≡ labelAt text starts lengths i
+  unfolding listed
+  listed-at zero starts lengths a b i l = absurd (not-suc-le-zero l)
+  listed-at (suc count) [] lengths a b i l = absurd (not-suc-le-zero a)
+  listed-at (suc count) (s ∷ starts) [] a b i l = absurd (not-suc-le-zero b)
+  listed-at (suc count) (s ∷ starts) (n ∷ lengths) a b zero l = refl
+  listed-at (suc count) (s ∷ starts) (n ∷ lengths) a b (suc i) l =
+      listed-at count starts lengths (le-of-suc-le-suc a) (le-of-suc-le-suc b) i (le-of-suc-le-suc l)
 
   -- The entries are there.
   pub within-long : (count : ℕ) (starts lengths : List ℕ) → within text count starts lengths ≡ true

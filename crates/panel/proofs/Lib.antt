@@ -1,0 +1,9 @@
+pub mod Listed
+pub mod Bounds
+pub mod Sliding
+pub mod Starts
+pub mod Looking
+pub mod Answering
+pub mod Says
+pub mod Firsts
+pub mod Outcomes
