@@ -259,7 +259,7 @@ static void judging(void) {
 }
 
 /* The labels of a panel, an index of four entries, of which the last ends past them, and what is lent beside. */
-static const char panel_text[] = "AAAAAAAAAAAAAGCGCCAcgAAAAAAAAAAAAAAAAAAAAAAAAAA";
+static const char panel_text[] = "AAAAAAAAAAAAAGCGCCAcgcAAAAAAAAAAAAAAAAAAAAAAAAA";
 static const uint32_t panel_starts[] = {0, 18, 33, 33}, panel_lengths[] = {18, 15, 14, 15};
 static uint32_t panel_out[4];
 static uint64_t panel_figures[2];

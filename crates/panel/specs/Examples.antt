@@ -10,7 +10,7 @@ use Rattle.panel.specs.Panel.{panel, openPanel}
 
 -- Labels of 18, 15 and 14 bases, and an entry that lies past them.
 unfoldable pub text : List ℕ
-text = bytes "AAAAAAAAAAAAAGCGCCAcgAAAAAAAAAAAAAAAAAAAAAAAAAA"
+text = bytes "AAAAAAAAAAAAAGCGCCAcgcAAAAAAAAAAAAAAAAAAAAAAAAA"
 
 unfoldable pub asked : ℕ → ℕ → ℕ → ℕ → ℕ → ℕ → List ℕ → Filled
 asked K cutoff L least most count slice =
