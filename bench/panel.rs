@@ -1,7 +1,7 @@
 // Times lash_panel beside two scans written plainly in Rust, on the same labels, in one process: one that keeps the
-// number of G and C up from start to start, and one that counts anew at each start. Prints millions of bases a
-// second, those that lie before the end of the first probe, and of labels without one all. Each time is the least of
-// several runs, and the answers are compared in each.
+// number of G and C up from start to start, and one that counts anew at each start. Prints millions of bases a second,
+// those up to the end of the first probe, of labels without one all, and of labels shorter than a probe, at which no
+// base is looked at, none. Each time is the least of several runs, and the answers are compared in each.
 #![allow(dead_code)]
 
 #[path = "../oracle/graph/cases.rs"]
@@ -91,7 +91,11 @@ impl Case {
             }
             assert!(answers[0] == answers[1] && answers[0] == answers[2], "the answers differ: {}", self.name);
         }
-        let looked_at = |(start, n): (&u32, &u32)| if *start == NONE { *n as usize } else { *start as usize + self.probe };
+        let looked_at = |(start, n): (&u32, &u32)| match *start {
+            NONE if (*n as usize) < self.probe => 0,
+            NONE => *n as usize,
+            start => start as usize + self.probe,
+        };
         let bases: usize = answers[0].iter().zip(&self.lengths).map(looked_at).sum();
         let [ours, kept, counted] = least.map(|took| bases as f64 * 1e3 / took);
         println!("| {} | {} | {ours:.0} | {kept:.0} | {counted:.0} |", self.name, self.probe);
