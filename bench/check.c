@@ -340,6 +340,79 @@ static void strains(void) {
     same_bytes("the probe of strain B", labels + starts[3] + out[3], "TACTACACTGACTTGAACGC", 20);
 }
 
+/* Two runs of a label with five k-mers, the README's: worker 7's index 3 from vertex 0 on, worker 0's index 1 from
+ * vertex 2 on. */
+static const uint64_t two_runs[] = {13002342400, 4294967298}, one_in_process = (UINT64_C(1) << 63) + 775;
+static uint64_t color_figures[3], colors[7];
+
+/* The figures and the colours before a call. */
+static void clear_colors(void) {
+    for (size_t i = 0; i < LEN(color_figures); i++) color_figures[i] = UNTOUCHED;
+    for (size_t i = 0; i < LEN(colors); i++) colors[i] = UNTOUCHED;
+}
+
+/* A call was refused, and nothing was touched. */
+static void no_color(const char *what, uint32_t got, uint32_t wanted) {
+    same(what, got, wanted);
+    for (size_t i = 0; i < LEN(color_figures); i++) same("a figure after a colour's refusal", color_figures[i], UNTOUCHED);
+    for (size_t i = 0; i < LEN(colors); i++) same("a colour after a refusal", colors[i], UNTOUCHED);
+}
+
+static void packed_colors(void) {
+    clear_colors();
+    no_color("worker 256", lash_pack_coordinate(256, 0, color_figures, 3), 22);
+    no_color("index 2^32", lash_pack_coordinate(0, UINT64_C(1) << 32, color_figures, 3), 22);
+    no_color("the parts of 2^40", lash_unpack_coordinate(UINT64_C(1) << 40, color_figures, 3), 22);
+    no_color("the parts of one in process", lash_unpack_coordinate(one_in_process, color_figures, 3), 22);
+    no_color("offset 2^24", lash_pack_run(1 << 24, 775, color_figures, 3), 22);
+    no_color("a run of 2^40", lash_pack_run(0, UINT64_C(1) << 40, color_figures, 3), 22);
+    no_color("a run of one in process", lash_pack_run(0, one_in_process, color_figures, 3), 22);
+    same("worker 7, index 3", lash_pack_coordinate(7, 3, color_figures, 3), 0);
+    same("its coordinate", color_figures[0], 775);
+    same("the cell past the coordinate", color_figures[1], UNTOUCHED);
+    same("the last coordinate", lash_pack_coordinate(255, UINT32_MAX, color_figures, 3), 0);
+    same("its word", color_figures[0], (UINT64_C(1) << 40) - 1);
+    same("the parts of 775", lash_unpack_coordinate(775, color_figures, 3), 0);
+    same("its worker", color_figures[0], 7);
+    same("its index", color_figures[1], 3);
+    same("the cell past the parts", color_figures[2], UNTOUCHED);
+    same("a run of 775 at 5", lash_pack_run(5, 775, color_figures, 3), 0);
+    same("its word", color_figures[0], 13002342405);
+    same("the last run", lash_pack_run((1 << 24) - 1, (UINT64_C(1) << 40) - 1, color_figures, 3), 0);
+    same("its word", color_figures[0], UINT64_MAX);
+    same("its parts", lash_unpack_run(13002342405, color_figures, 3), 0);
+    same("its offset", color_figures[0], 5);
+    same("its coordinate", color_figures[1], 775);
+    same("the parts of a run in one cell", lash_unpack_run(UINT64_MAX, color_figures, 1), 0);
+    same("the offset there", color_figures[0], (1 << 24) - 1);
+    same("the cell past it", color_figures[1], 775);
+}
+
+static void run_lists(void) {
+    const uint64_t late[] = {13002342401}, equal[] = {13002342400, 4294967296};
+    const uint64_t wanted[] = {775, 775, 256, 256, 256, UNTOUCHED, UNTOUCHED};
+    same("two runs of five k-mers", lash_check_runs(two_runs, 2, 5), 0);
+    same("two runs of three", lash_check_runs(two_runs, 2, 3), 0);
+    same("two runs of two", lash_check_runs(two_runs, 2, 2), 23);
+    same("no run", lash_check_runs(two_runs, 0, 5), 23);
+    same("one run of no k-mer", lash_check_runs(two_runs, 1, 0), 23);
+    same("a first run at 1", lash_check_runs(late, 1, 5), 23);
+    same("two runs at 0", lash_check_runs(equal, 2, 5), 23);
+    clear_colors();
+    no_color("the colour at vertex 5", lash_color_at(two_runs, 2, 5, 5, color_figures, 3), 24);
+    no_color("the colour at vertex 5 of a list that ends too late", lash_color_at(two_runs, 2, 2, 5, color_figures, 3), 23);
+    no_color("colours in too few cells", lash_write_colors(two_runs, 2, 5, colors, 4, color_figures, 3), 9);
+    no_color("colours of no list", lash_write_colors(two_runs, 0, 5, colors, 4, color_figures, 3), 23);
+    for (uint32_t vertex = 0; vertex < 5; vertex++) {
+        same("the colour at a vertex", lash_color_at(two_runs, 2, 5, vertex, color_figures, 3), 0);
+        same("its coordinate", color_figures[0], wanted[vertex]);
+    }
+    same("the colours of five vertices", lash_write_colors(two_runs, 2, 5, colors, LEN(colors), color_figures, 3), 0);
+    same("their number", color_figures[0], 5);
+    same("the cell past it", color_figures[1], UNTOUCHED);
+    same_bytes("the colours", colors, wanted, sizeof colors);
+}
+
 int main(void) {
     uint64_t keys[32], keys_before[32], figures[3];
     uint32_t counts[16], counts_before[16], starts[16], lengths[16];
@@ -485,6 +558,8 @@ int main(void) {
     judging();
     panels();
     strains();
+    packed_colors();
+    run_lists();
 
     if (differences == 0) printf("check: ok\n");
     return differences != 0;

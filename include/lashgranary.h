@@ -1,5 +1,5 @@
 /* Lashgranary for C: the calls of a pipeline over memory that the caller lends. The functions are those of the proved crate
- * capi; their contracts are in crates/capi/src/lib.rt.
+ * capi; their contracts are in crates/capi/src.
  *
  * Each slice is a pointer and its length in elements. A pointer must be aligned, not null (for a length of 0 too) and good for
  * its length, and a slice that is not const must overlap no other slice of the call.
@@ -7,8 +7,8 @@
  * Each call returns 0, or the number of the first refusal that applies (lash_add_labels: to the last label that was tried). It
  * writes its figures into the first cells of the slice figures, as many as have room (two are always enough), and leaves the rest
  * as it was: where it returns 0 the figures named at the call, else what is returned beside the refusal, which is nothing where
- * none is named. A refusal changes no other lent memory, except that 8 and 9 set the first n marks to 0, and that
- * lash_add_labels writes its totals and keeps the labels that it added before.
+ * none is named. A refusal changes no other lent memory, except that 8 and 9 of lash_contract set the first n marks to 0, and
+ * that lash_add_labels writes its totals and keeps the labels that it added before.
  *
  * The calls keep local arrays on the stack, adding up to 153 KiB, contraction 193 KiB and judging 65 KiB: a stack of 256 KiB is
  * enough.
@@ -160,6 +160,69 @@ uint32_t lash_panel(size_t k, uint32_t cutoff, size_t probe, size_t least, size_
                     size_t count,
                     uint32_t *out, size_t out_len,
                     uint64_t *figures, size_t figures_len);
+
+/* Colours: which sources, such as cultures, a stretch of a label came from. Each set of sources is kept at a coordinate: a worker below
+ * 256 in the lowest 8 bits, and an index below 2 to the 32 in the 32 bits above them, 40 bits in all. The highest bit of a
+ * coordinate's word marks one that is still in process, which is never packed.
+ * A run is a stretch of one colour: the offset of its first vertex (k-mer, counted from 0 within the label) in the lowest 24 bits of
+ * a word, and the coordinate in the 40 bits above them. Every word is a run. The words are those of Cuttlefish's UnitigColor.
+ */
+
+/* Packs a coordinate. Figure: the coordinate.
+ * Refusal:
+ *   22  the worker from 256 on, or the index from 2 to the 32 on
+ */
+uint32_t lash_pack_coordinate(uint64_t worker, uint64_t index,
+                              uint64_t *figures, size_t figures_len);
+
+/* Takes a coordinate apart. Figures: the worker and the index; packed again they give the coordinate.
+ * Refusal:
+ *   22  the coordinate from 2 to the 40 on, so also one in process
+ */
+uint32_t lash_unpack_coordinate(uint64_t coordinate,
+                                uint64_t *figures, size_t figures_len);
+
+/* Packs a run that begins at an offset. Figure: the run.
+ * Refusal:
+ *   22  the offset from 2 to the 24 on, or the coordinate from 2 to the 40 on, so also one in process
+ */
+uint32_t lash_pack_run(uint32_t offset, uint64_t coordinate,
+                       uint64_t *figures, size_t figures_len);
+
+/* Takes a run apart. Figures: the offset and the coordinate; packed again they give the run. There is no refusal. */
+uint32_t lash_unpack_run(uint64_t run,
+                         uint64_t *figures, size_t figures_len);
+
+/* Checks the run list of a label with so many k-mers, which are its bases less K - 1: at least one run, the offsets strictly
+ * ascending, the first 0, all below the number of k-mers. There are no figures.
+ * Refusal:
+ *   23  the list breaks one of these rules
+ */
+uint32_t lash_check_runs(const uint64_t *runs, size_t runs_len,
+                         size_t kmers);
+
+/* Answers the colour at a vertex of a label with so many k-mers: that of the last run at or before it. The whole list is checked at
+ * each call; for many vertices of one label there is lash_write_colors.
+ * Figure: the coordinate of the colour.
+ * Refusals, in the order in which they are tried:
+ *   23  the list breaks a rule of lash_check_runs
+ *   24  the vertex is not below the number of k-mers
+ */
+uint32_t lash_color_at(const uint64_t *runs, size_t runs_len,
+                       size_t kmers, uint32_t vertex,
+                       uint64_t *figures, size_t figures_len);
+
+/* Writes the colours of all vertices of a label with so many k-mers: out[v] is the coordinate of the colour at vertex v, what
+ * lash_color_at answers. Cells of out past the number of k-mers stay as they were.
+ * Figure: the number of colours written, which is that of the k-mers.
+ * Refusals, in the order in which they are tried:
+ *   23  the list breaks a rule of lash_check_runs
+ *   9   the number of k-mers exceeds the slice out
+ */
+uint32_t lash_write_colors(const uint64_t *runs, size_t runs_len,
+                           size_t kmers,
+                           uint64_t *out, size_t out_len,
+                           uint64_t *figures, size_t figures_len);
 
 #ifdef __cplusplus
 }

@@ -26,4 +26,13 @@ unsafe extern "C" {
         k: usize, cutoff: u32, probe: usize, least: usize, most: usize, labels: *const u8, labels_len: usize, starts: *const u32, starts_len: usize,
         lengths: *const u32, lengths_len: usize, count: usize, out: *mut u32, out_len: usize, figures: *mut u64, figures_len: usize,
     ) -> u32;
+    pub fn lash_pack_coordinate(worker: u64, index: u64, figures: *mut u64, figures_len: usize) -> u32;
+    pub fn lash_unpack_coordinate(coordinate: u64, figures: *mut u64, figures_len: usize) -> u32;
+    pub fn lash_pack_run(offset: u32, coordinate: u64, figures: *mut u64, figures_len: usize) -> u32;
+    pub fn lash_unpack_run(run: u64, figures: *mut u64, figures_len: usize) -> u32;
+    pub fn lash_check_runs(runs: *const u64, runs_len: usize, kmers: usize) -> u32;
+    pub fn lash_color_at(runs: *const u64, runs_len: usize, kmers: usize, vertex: u32, figures: *mut u64, figures_len: usize) -> u32;
+    pub fn lash_write_colors(
+        runs: *const u64, runs_len: usize, kmers: usize, out: *mut u64, out_len: usize, figures: *mut u64, figures_len: usize,
+    ) -> u32;
 }

@@ -16,7 +16,7 @@ use Rattle.rules.specs.Verdict.{Verdict}
 use Rattle.rules.specs.Judging.{Judgement}
 use Rattle.judging.specs.declared.JudgeAnswer.{JudgeAnswer}
 use Rattle.judging.specs.Answers.{judgeAnswer, Judges}
-use Rattle.capi.specs.Says.{numberOf, figures, noted, ofEdges, ofTotals, ofSize, ofVerdict, Tells, AddsLabel, AddsSeveral, ContractsTable, FillsOut, JudgesText}
+use Rattle.capi.specs.Says.{numberOf, figures, noted, ofEdges, ofTotals, ofNumber, ofVerdict, Tells, AddsLabel, AddsSeveral, ContractsTable, FillsOut, JudgesText}
 use Rattle.capi.proofs.Noting.{noted-none}
 
 -- Over the figures before and after; `case` is what an answer was found to be.
@@ -82,14 +82,14 @@ module _ {before after : List ℕ} where
     marks-after = d .marks-after;
   }
 
-  -- A slice is filled; `says` is what the cases of the call's enum mean.
+  -- `says` is what the cases of a call's enum mean: an answer is told, and a slice is filled.
+  pub tells : {A R : Type 0} {f : A → List ℕ} (says : R → Answer A) {a : Answer A} {r case : R} {n : ℕ} → says r ≡ a
+      → r ≡ case → n ≡ numberOf (says case) → after ≡ noted (figures f (says case)) before → Tells f a n before after
+  tells says w e m h = told (sym w ∙ ap says e) m h
+
   pub fills : {R : Type 0} (says : R → Answer ℕ) {r case : R} {n : ℕ} {out : List ℕ} {f : Filled}
       → says r ≡ f .answer → out ≡ f .slice → r ≡ case → n ≡ numberOf (says case)
-      → after ≡ noted (figures ofSize (says case)) before → FillsOut n out before after f
-  fills says a o e m h =
-      let w = ap says (sym e) ∙ a in
-      record {
-        number = m ∙ ap numberOf w;
-        figures-after = h ∙ ap (λ (x : Answer ℕ). noted (figures ofSize x) before) w;
-        out-after = o;
-      }
+      → after ≡ noted (figures ofNumber (says case)) before → FillsOut n out before after f
+  fills says w o e m h =
+      let t = tells {f = ofNumber} says w e m h in
+      record { number = t .number; figures-after = t .figures-after; out-after = o }

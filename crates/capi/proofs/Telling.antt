@@ -2,15 +2,19 @@
 use mathlib.Core.Path.{_≡_, sym, _∙_}
 use mathlib.Core.List.{List}
 use Prim.Native.Nat.{ℕ}
-use Rattle.dna.specs.Answer.{Filled}
+use Rattle.dna.specs.Answer.{Answer, Filled}
 use Rattle.graph.specs.Adding.{Added}
 use Rattle.graph.specs.Several.{Several}
 use Rattle.graph.specs.Contraction.{Contracted}
 use Rattle.rules.specs.Judging.{Judgement}
-use Rattle.capi.specs.Says.{AddsLabel, AddsSeveral, ContractsTable, FillsOut, JudgesText}
+use Rattle.capi.specs.Says.{Tells, AddsLabel, AddsSeveral, ContractsTable, FillsOut, JudgesText}
 
 -- Over the number and the figures of either, and the figures before.
 module _ {r s : ℕ} {figures₀ figures figures′ : List ℕ} where
+  pub tells-one : {A : Type 0} {f : A → List ℕ} {a : Answer A} → Tells f a r figures₀ figures
+      → Tells f a s figures₀ figures′ → (r ≡ s) × (figures ≡ figures′)
+  tells-one t u = (t .number ∙ sym (u .number), t .figures-after ∙ sym (u .figures-after))
+
   pub adds-label-one : {keys keys′ counts counts′ : List ℕ} {a : Added}
       → AddsLabel r keys counts figures₀ figures a → AddsLabel s keys′ counts′ figures₀ figures′ a
       → (r ≡ s) × (figures ≡ figures′) × (keys ≡ keys′) × (counts ≡ counts′)

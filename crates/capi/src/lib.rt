@@ -13,6 +13,9 @@ ghost use Rattle.contraction.specs.Says.{contractAnswer};
 ghost use Rattle.judging.specs.Answers.{judgeAnswer};
 ghost use Rattle.panel.specs.Panel.{panel};
 ghost use Rattle.capi.specs.Says.{edgeKindOf, modeOf, noted, ofEdges, ofTotals, ofVerdict, Tells, AddsLabel, AddsSeveral, ContractsTable, FillsOut, JudgesText};
+
+mod runs;
+
 use adding::AddAnswer;
 use adding::LabelsAnswer;
 use adding::Mode;
@@ -20,6 +23,13 @@ use contraction::ContractAnswer;
 use fasta::FastaAnswer;
 use judging::JudgeAnswer;
 use panel::PanelAnswer;
+pub use runs::lash_check_runs;
+pub use runs::lash_color_at;
+pub use runs::lash_pack_coordinate;
+pub use runs::lash_pack_run;
+pub use runs::lash_unpack_coordinate;
+pub use runs::lash_unpack_run;
+pub use runs::lash_write_colors;
 use state::EdgeKind;
 
 // One figure.

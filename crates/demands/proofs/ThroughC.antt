@@ -41,7 +41,7 @@ use Rattle.capi.specs.Says.{
   ofEdges,
   ofTotals,
   ofVerdict,
-  ofSize,
+  ofNumber,
   AddsLabel,
   AddsSeveral,
   ContractsTable,
@@ -227,13 +227,13 @@ module _ (K cutoff L least most : ℕ) (labels starts lengths : List ℕ) (count
   -- The call of `panel` that it is; `answered-says` of panel/proofs/Outcomes.antt and `answers-unshared` of
   -- Panels.antt speak of that.
   pub c-panels : (a : PanelAnswer) × Panels a out′ asked × (r ≡ numberOf (panelAnswer a))
-      × (figures′ ≡ noted (figures ofSize (panelAnswer a)) figures₀)
+      × (figures′ ≡ noted (figures ofNumber (panelAnswer a)) figures₀)
   c-panels =
       let t = panel-told K cutoff L least most labels starts lengths count out in (
         t .0,
         record { answer = t .1; slice = c .out-after },
         c .number ∙ ap numberOf (sym (t .1)),
-        c .figures-after ∙ ap (λ a. noted (figures ofSize a) figures₀) (sym (t .1)),
+        c .figures-after ∙ ap (λ a. noted (figures ofNumber a) figures₀) (sym (t .1)),
       )
 
   -- Where 0 is returned, all labels were answered.

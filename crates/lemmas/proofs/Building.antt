@@ -1,11 +1,12 @@
--- A text written into a slice cell by cell, from the first cell on. Assumes nothing.
-use mathlib.Core.Path.{_≡_, refl, _∙_}
-use mathlib.Core.List.{List, _++_}
-use Prim.Native.Nat.{ℕ, suc, _+_, _≤_, _<_}
+-- A text written into a slice cell by cell or part by part, from the first cell on. Assumes nothing.
+use mathlib.Core.Path.{_≡_, refl, sym, ap, _∙_}
+use mathlib.Core.List.{List, _++_, append-assoc, append-nil}
+use Prim.Native.Nat.{ℕ, suc, _+_, _-_, _≤_, _<_}
 use native.Mathlib.Numerals.{add-one}
 use native.Mathlib.Omega.{arith}
-use lib.ListN.{length, getD, take, drop, set}
-use lib.Seq.{length-take-le, take-suc, drop-cons, append-snoc, set-at, take-length}
+use borrow.Rule.Slice.PartMut.{putMid, post-is}
+use lib.ListN.{length, getD, take, drop, set, replicate, drop-of-length-le, length-replicate, getD-replicate}
+use lib.Seq.{length-take-le, take-suc, take-add, take-at, drop-at, drop-cons, append-snoc, set-at, take-length}
 
 -- The slice has the text's first i cells, and is as it was behind them.
 pub record Built (text slice₀ slice : List ℕ) (i : ℕ) : Type 0 where
@@ -29,3 +30,31 @@ module _ (text slice₀ slice : List ℕ) (i : ℕ) (b : Built text slice₀ sli
   -- All of it.
   pub built-all : length text ≤ i → slice ≡ text ++ drop (length text) slice₀
   built-all h = let e : i ≡ length text = omega (arith, b .within) in b .cells ∙ rw (e, take-length)
+
+  -- The same of a text as long as the slice.
+  pub built-whole : length text ≡ length slice₀ → length slice₀ ≤ i → slice ≡ text
+  built-whole e h =
+      let l : length slice₀ ≤ length text = omega arith in
+      built-all (omega arith) ∙ rw (drop-of-length-le slice₀ l) (append-nil text)
+
+  -- A part, which was lent from cell i up to cell j.
+  pub built-part : (j : ℕ) (part : List ℕ) → i ≤ j → j ≤ length text → part ≡ take (j - i) (drop i text)
+      → Built text slice₀ (putMid i (j - i) slice part) j
+  built-part j part l t p =
+      let n : length (take i text) ≡ i = length-take-le i text (b .within) in
+      let front : take i slice ≡ take i text = ap (take i) (b .cells) ∙ take-at (take i text) (drop i slice₀) i n in
+      let back : drop i slice ≡ drop i slice₀ = ap (drop i) (b .cells) ∙ drop-at (take i text) (drop i slice₀) i n in
+      let e : j ≡ i + (j - i) = omega arith in
+      let both : take j text ≡ take i text ++ take (j - i) (drop i text) =
+      ap (λ (m : ℕ). take m text) e ∙ take-add i (j - i) text in
+      record { within = t; cells = rw (front, back, post-is i j slice₀ l, p, both, append-assoc) }
+
+-- Each cell set to one value.
+module _ (v : ℕ) (slice₀ slice : List ℕ) (i : ℕ) (b : Built (replicate (length slice₀) v) slice₀ slice i) where
+  pub alike-more : i < length slice₀ → Built (replicate (length slice₀) v) slice₀ (set slice i v) (i + 1)
+  alike-more h =
+      built-more (replicate (length slice₀) v) slice₀ slice i b v (omega (arith, length-replicate (length slice₀) v)) h
+      (sym (getD-replicate (length slice₀) i v 0 h))
+
+  pub alike-all : length slice₀ ≤ i → slice ≡ replicate (length slice₀) v
+  alike-all h = built-whole (replicate (length slice₀) v) slice₀ slice i b (length-replicate (length slice₀) v) h

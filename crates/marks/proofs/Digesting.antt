@@ -3,9 +3,9 @@ use mathlib.Core.Path.{_≡_, sym, ap, _∙_}
 use mathlib.Core.List.{List, map}
 use Prim.Native.Nat.{ℕ, suc, _+_, _≤_, _<_, min}
 use native.Mathlib.Omega.{arith}
-use lib.ListN.{length, getD, take, drop, set, replicate, length-map, length-take, length-replicate, getD-replicate}
+use lib.ListN.{length, getD, take, drop, set, length-map, length-take}
 use lib.Seq.{length-take-le, drop-cons, getD-at, getD-take}
-use Rattle.lemmas.proofs.Building.{Built, built-more, built-all}
+use Rattle.lemmas.proofs.Building.{Built, built-more, built-all, built-whole}
 use Rattle.lemmas.proofs.Lists.{getD-map}
 use Rattle.dna.specs.Text.{over}
 use Rattle.dna.proofs.Overwriting.{over-all}
@@ -16,9 +16,6 @@ module _ (text slice₀ slice : List ℕ) (i : ℕ) (b : Built text slice₀ sli
   built-rest h =
       rw (b .cells, drop-cons slice₀ i 0 h)
       (getD-at (take i text) (getD slice₀ i 0) (drop (suc i) slice₀) 0 i (length-take-le i text (b .within)))
-
-  built-whole : length text ≡ length slice₀ → length slice₀ ≤ i → slice ≡ text
-  built-whole e h = built-all text slice₀ slice i b (omega arith) ∙ over-all text slice₀ e
 
 module _ (f : ℕ → ℕ) (slice₀ slice : List ℕ) (i : ℕ) (b : Built (map f slice₀) slice₀ slice i) where
   -- Each cell computed from itself.
@@ -51,13 +48,3 @@ module _ (f : ℕ → ℕ) (ws slice₀ : List ℕ) where
 
     pub first-all : min (length slice₀) (length ws) ≤ i → slice ≡ over first slice₀
     first-all h = built-all first slice₀ slice i b (omega (arith, length-first))
-
--- Each cell set to 0.
-module _ (slice₀ slice : List ℕ) (i : ℕ) (b : Built (replicate (length slice₀) 0) slice₀ slice i) where
-  pub zeros-more : i < length slice₀ → Built (replicate (length slice₀) 0) slice₀ (set slice i 0) (i + 1)
-  zeros-more h =
-      built-more (replicate (length slice₀) 0) slice₀ slice i b 0 (omega (arith, length-replicate {A = ℕ} (length slice₀) 0)) h
-      (sym (getD-replicate (length slice₀) i 0 0 h))
-
-  pub zeros-all : length slice₀ ≤ i → slice ≡ replicate (length slice₀) 0
-  zeros-all h = built-whole (replicate (length slice₀) 0) slice₀ slice i b (length-replicate {A = ℕ} (length slice₀) 0) h

@@ -3,8 +3,7 @@ use mathlib.Core.Path.{_≡_, refl}
 use Prim.Native.Nat.{_-_, _≤_}
 use native.Mathlib.Omega.{arith}
 use lib.ListN.{length, length-set, replicate}
-use Rattle.lemmas.proofs.Building.{Built, built-none}
-use Rattle.marks.proofs.Digesting.{zeros-more, zeros-all}
+use Rattle.lemmas.proofs.Building.{Built, built-none, alike-more, alike-all}
 use borrow.Author.Needs.{needs}
 use Rattle.marks.proofs.making.clear.Statement.{statement}
 use Rattle.marks.proofs.making.clear.Tie as tie
@@ -21,12 +20,12 @@ loop-holds c = (search needs, refl, built-none _ _)
 loop-again : tie.Need-loop-again Inv-loop μ-loop
 loop-again c =
     let l = c .before .loop in
-    (search needs, simp length-set (l .inv .1), zeros-more (c .before .before .args .marks .now) (l .marks) (l .i) (l .inv .2) (omega arith))
+    (search needs, simp length-set (l .inv .1), alike-more 0 (c .before .before .args .marks .now) (l .marks) (l .i) (l .inv .2) (omega arith))
 
 returns : tie.Need-returns Inv-loop μ-loop
 returns c =
     let l = c .before .loop in
-    zeros-all (c .before .before .args .marks .now) (l .marks) (l .i) (l .inv .2) (omega arith)
+    alike-all 0 (c .before .before .args .marks .now) (l .marks) (l .i) (l .inv .2) (omega arith)
 
 pub clear-spec : {M : Type 1} → statement M
 clear-spec =
