@@ -1,5 +1,7 @@
 // The calls of a pipeline for C and Rust: each answers a refusal's number, 0 where there is none, and puts its figures, or what is returned beside
 // the refusal, into the first cells of a lent slice.
+#![tactic(auto)]
+
 ghost use Rattle.std.specs.Prelude.{◌≡◌, [], ◌∷◌};
 ghost use Rattle.state.specs.Says.{kind_of};
 ghost use Rattle.graph.specs.Adding.{add_label};

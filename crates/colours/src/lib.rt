@@ -1,4 +1,6 @@
 // Colours: where a set of sources is kept and runs of one colour (the colours of state.rs), and the run list of a label.
+#![tactic(auto)]
+
 ghost use Rattle.std.specs.Prelude.{◌≡◌};
 ghost use Rattle.colours.specs.Packed.{in_process, offset_in, coordinate_in};
 ghost use Rattle.colours.specs.Packed.{discovered_call, u40_call, worker_call, index_call, run_call};
@@ -10,47 +12,47 @@ pub use list::{check_runs, color_at, write_colors};
 
 // Where a set of sources is kept: a worker in eight bits, an index in 32 above them. The highest bit of the word marks
 // a coordinate in process.
-#[derive(Drop)]
+#[derive(Clone, Copy)]
 pub struct ColorCoordinate(pub u64);
 
 // A vertex of a label, from 0 on. A run can begin at those below 2^24.
-#[derive(Drop)]
+#[derive(Clone, Copy)]
 pub struct VertexOffset(pub u32);
 
 // A run: the offset of its first vertex in 24 bits, its colour's coordinate in the 40 bits above them.
-#[derive(Drop)]
+#[derive(Clone, Copy)]
 pub struct UnitigColor(pub u64);
 
 // A coordinate, or that a part of it is out of range.
-#[derive(Drop)]
+#[derive(Clone, Copy)]
 pub enum CoordinateAnswer {
     Made(ColorCoordinate),
     OutOfRange,
 }
 
 // A part of a coordinate, or its 40 bits; or that the coordinate has more.
-#[derive(Drop)]
+#[derive(Clone, Copy)]
 pub enum PartAnswer {
     Is(u64),
     OutOfRange,
 }
 
 // A run, or that its offset or its coordinate is out of range.
-#[derive(Drop)]
+#[derive(Clone, Copy)]
 pub enum RunAnswer {
     Packed(UnitigColor),
     OutOfRange,
 }
 
 // A label's run list keeps the rules, or breaks one.
-#[derive(Drop)]
+#[derive(Clone, Copy)]
 pub enum RunsAnswer {
     Sound,
     Broken,
 }
 
 // The colour at a vertex; a run list that breaks a rule; a vertex past the label.
-#[derive(Drop)]
+#[derive(Clone, Copy)]
 pub enum ColorAnswer {
     Color(ColorCoordinate),
     BrokenRuns,
@@ -58,7 +60,7 @@ pub enum ColorAnswer {
 }
 
 // The number of vertices whose colours were written; a run list that breaks a rule; the colours exceed their slice.
-#[derive(Drop)]
+#[derive(Clone, Copy)]
 pub enum ColorsAnswer {
     Written(usize),
     BrokenRuns,

@@ -1,6 +1,8 @@
 // Prints what coordinates, runs and run lists answer. The file `stdout` beside this is written by oracle/record: what
 // the Rust original answers of coordinates and runs, R22 where it asserts; of run lists, which it does not read, what
 // document 02's rules give over its words; and R22 for the parts of 2^40, of which it answers some bits.
+#![tactic(auto)]
+
 use colours::{
     ColorAnswer, ColorCoordinate, ColorsAnswer, CoordinateAnswer, PartAnswer, RunAnswer,
     RunsAnswer, UnitigColor, VertexOffset,

@@ -1,4 +1,6 @@
 // Contraction: the unitigs of a lent table, written into lent slices.
+#![tactic(auto)]
+
 use graph::Step;
 use kmer::Kmer;
 
@@ -11,7 +13,7 @@ mod write;
 pub use unitigs::contract;
 
 // The number of labels and of their bases, or why the table was not contracted.
-#[derive(Drop)]
+#[derive(Clone, Copy)]
 pub enum ContractAnswer {
     Contracted { labels: usize, bases: usize },
     UnsupportedK(usize),
@@ -31,21 +33,21 @@ const CLOSED: u8 = 1;
 const SKIPPED: u8 = 2;
 
 // A walk: how many bases it appends, and the step at which it ends.
-#[derive(Drop)]
+#[derive(Clone, Copy)]
 struct Walked {
     bases: usize,
     last: Step,
 }
 
 // A k-mer as a walk sees it, and its reverse complement.
-#[derive(Drop)]
+#[derive(Clone, Copy)]
 struct Strands {
     here: Kmer,
     other: Kmer,
 }
 
 // A label: its length, where its walks end in the trail, and whether a vertex was missing.
-#[derive(Drop)]
+#[derive(Clone, Copy)]
 struct Extracted {
     bases: usize,
     end: usize,
@@ -53,14 +55,14 @@ struct Extracted {
 }
 
 // A label written: its length, and where its walks end in the trail.
-#[derive(Drop)]
+#[derive(Clone, Copy)]
 struct Written {
     bases: usize,
     end: usize,
 }
 
 // All labels: their number, their bases, and whether a vertex was missing.
-#[derive(Drop)]
+#[derive(Clone, Copy)]
 struct Surveyed {
     labels: usize,
     bases: usize,

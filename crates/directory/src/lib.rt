@@ -1,5 +1,7 @@
 // A directory of a table's keys: where to look for a k-mer first. It is a hint and no more: what is found by it is tested, and where
 // the test fails all keys are searched, so that over a fit table the answer is right whatever the directory says.
+#![tactic(auto)]
+
 ghost use Rattle.std.specs.Prelude.{◌≡◌, ◌/◌, ◌≤◌, ◌<◌, min, length};
 ghost use Rattle.kmer.specs.Says.{value_of};
 ghost use Rattle.graph.specs.Table.{keys_of};

@@ -1,4 +1,6 @@
 // DNA letters, complements, reversal and rotation.
+#![tactic(auto)]
+
 ghost use Rattle.std.specs.Prelude.{◌≡◌, ltb};
 ghost use Rattle.dna.specs.Letters.{code_of, letter_of, complement, is_base, complement_letter, valid_bits};
 ghost use Rattle.dna.specs.Calls.{code_in, bits_where};
@@ -8,7 +10,7 @@ mod labels;
 pub use labels::{copy, least_rotation_start, minimal_rotation, reverse_complement_label};
 
 // A base: N is a letter that is none, E is "no base".
-#[derive(Drop)]
+#[derive(Clone, Copy)]
 pub enum Base {
     A,
     C,
@@ -19,14 +21,14 @@ pub enum Base {
 }
 
 // The two bits of a byte that is a base.
-#[derive(Drop)]
+#[derive(Clone, Copy)]
 pub enum AsciiBits {
     Bits(u8),
     NoBase,
 }
 
 // How many bytes of a text were written, or that it does not fit its slice, where nothing was.
-#[derive(Drop)]
+#[derive(Clone, Copy)]
 pub enum Written {
     Done(usize),
     NoRoom,

@@ -1,5 +1,7 @@
 // Prints what the letters answer: for every byte, for every base, and for many labels. The file `stdout` beside this holds
 // what the Rust original answers to the same questions (oracle/).
+#![tactic(auto)]
+
 use dna::{AsciiBits, Base, Written};
 use libc::STDOUT_FILENO;
 

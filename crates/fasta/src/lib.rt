@@ -1,4 +1,6 @@
 // The list of labels as FASTA.
+#![tactic(auto)]
+
 ghost use Rattle.std.specs.Prelude.{◌≡◌, true, ◌+◌, ◌≤◌, leb, length};
 ghost use Rattle.dna.specs.Text.{over};
 ghost use Rattle.label_index.specs.Entries.{listed, within};
@@ -10,7 +12,7 @@ use dna::copy;
 use label_index::{lie_within, wide};
 
 // The bytes written; the text exceeds its slice; an index slice is shorter than the count, or an entry lies past the labels.
-#[derive(Drop)]
+#[derive(Clone, Copy)]
 pub enum FastaAnswer {
     Written(usize),
     NoRoom,

@@ -1,8 +1,10 @@
 // What a walk meets, in the words of the definitions. No code stands here: the crates above do the work.
+#![tactic(auto)]
+
 use state::Side;
 
 // Why a walk stops.
-#[derive(Drop)]
+#[derive(Clone, Copy)]
 pub enum StopReason {
     // The side that the walk would leave by retains no edge.
     NoEdge,
@@ -15,7 +17,7 @@ pub enum StopReason {
 }
 
 // What one step of a walk finds.
-#[derive(Drop)]
+#[derive(Clone, Copy)]
 pub enum Step {
     // The next vertex, the side that it is left by, and the base that led to it.
     Next { vertex: usize, side: Side, base: u8 },

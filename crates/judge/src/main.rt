@@ -1,4 +1,6 @@
 // `judge LABEL-FILE`: a list as FASTA on standard input, judged by a label file; the line of a verdict or of a refusal on standard output.
+#![tactic(auto)]
+
 ghost use Rattle.std.specs.Prelude.{◌≡◌, ◌≤◌, length, take, replicate};
 ghost use Rattle.label_file.specs.Judged.{judged};
 ghost use Rattle.reading.specs.Within.{Within};

@@ -89,7 +89,7 @@ fn test_label(k: usize, keys: &[u64], directory: &[u32], marks: &mut [u8], label
 }
 
 // How many labels stand before the first with a bad step, where label i has none and so many did before: one more where all were good.
-fn one_more_lem(good: usize, i: usize) -> usize
+fn one_more(good: usize, i: usize) -> usize
     requires { (good ≤ i) × (i < 2 ^ 63) }
     ensures { result ≡ one_more good i }
 {
@@ -124,7 +124,7 @@ pub(crate) fn try_labels(
                 at = end + 1;
             }
             Tested::Fine => {
-                good = one_more_lem(good, i);
+                good = one_more(good, i);
                 i += 1;
                 at = end + 1;
             }

@@ -6,7 +6,7 @@ ghost use Rattle.kmer.specs.Packing.{valid_packed, bytes_in, Packs};
 use super::Kmer;
 
 // A k-mer, and a number that is 0 only where all its letters are bases.
-#[derive(Drop)]
+#[derive(Clone, Copy)]
 pub(crate) struct Packed {
     pub(crate) kmer: Kmer,
     pub(crate) strange: u64,

@@ -1,4 +1,6 @@
 // Packed k-mers of up to 63 bases.
+#![tactic(auto)]
+
 ghost use Rattle.std.specs.Prelude.{◌≡◌};
 ghost use Rattle.kmer.specs.Says.{kmer_of};
 
@@ -16,7 +18,7 @@ mod words;
 pub use quads::ASCII_QUADS;
 
 // The bases as a number in base 4, the first most significant, in two words, low word first.
-#[derive(Drop)]
+#[derive(Clone, Copy)]
 pub struct Kmer {
     pub words: [u64; 2],
 }
@@ -36,7 +38,7 @@ impl Kmer {
 }
 
 // Why a call was refused; `refusal` of specs/Says.antt gives each its number.
-#[derive(Drop)]
+#[derive(Clone, Copy)]
 pub enum KmerError {
     UnsupportedK(usize),
     TooShort(usize),
@@ -47,32 +49,32 @@ pub enum KmerError {
 }
 
 // What a call that makes a k-mer says; the k-mer stands beside it.
-#[derive(Drop)]
+#[derive(Clone, Copy)]
 pub enum KmerAnswer {
     Done,
     Refused(KmerError),
 }
 
 // A k-mer beside what the call says; it is the zero k-mer beside a refusal.
-#[derive(Drop)]
+#[derive(Clone, Copy)]
 pub struct Answered {
     pub answer: KmerAnswer,
     pub kmer: Kmer,
 }
 
-#[derive(Drop)]
+#[derive(Clone, Copy)]
 pub enum BaseAnswer {
     Found(dna::Base),
     Refused(KmerError),
 }
 
-#[derive(Drop)]
+#[derive(Clone, Copy)]
 pub enum TestAnswer {
     Is(bool),
     Refused(KmerError),
 }
 
-#[derive(Drop)]
+#[derive(Clone, Copy)]
 pub enum LettersAnswer {
     Written(usize),
     Refused(KmerError),

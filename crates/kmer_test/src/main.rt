@@ -1,5 +1,7 @@
 // Prints what the calls on k-mers answer at the edges of K and of the two words. The file `stdout` beside this holds what
 // oracle/kmer_test.py computes for the same questions with whole numbers.
+#![tactic(auto)]
+
 use dna::Base;
 use kmer::{Answered, BaseAnswer, Kmer, KmerAnswer, KmerError, LettersAnswer, TestAnswer};
 use libc::STDOUT_FILENO;

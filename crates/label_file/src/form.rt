@@ -6,7 +6,7 @@ ghost use Rattle.label_file.specs.Says.{form_says, head_says};
 use super::{Checked, Head};
 
 // Two bytes, low byte first.
-pub(crate) fn two_bytes_lem(file: &[u8], at: usize) -> usize
+pub(crate) fn two_bytes(file: &[u8], at: usize) -> usize
     requires { at + 1 < length file.now }
     ensures { (result ≡ two file.now at) × (result < 65536) }
 {
@@ -40,7 +40,7 @@ fn is_labelled(file: &[u8], at: usize) -> bool
     if file[at + 1] != b'B' {
         return false;
     }
-    at + 4 + two_bytes_lem(file, at + 2) <= file.len()
+    at + 4 + two_bytes(file, at + 2) <= file.len()
 }
 
 // The whole file, record by record.
@@ -59,7 +59,7 @@ pub(crate) fn form(file: &[u8]) -> Checked
         if !is_labelled(file, at) {
             return Checked::Damaged(record);
         }
-        at += 4 + two_bytes_lem(file, at + 2);
+        at += 4 + two_bytes(file, at + 2);
         record += 1;
     }
     Checked::Sound
@@ -85,7 +85,7 @@ pub(crate) fn read_head(file: &[u8]) -> Head
                     record: 0,
                 };
             }
-            let cutoff = (two_bytes_lem(file, 3) + 65536 * two_bytes_lem(file, 5)) as u32;
+            let cutoff = (two_bytes(file, 3) + 65536 * two_bytes(file, 5)) as u32;
             Head::Holds { k, cutoff }
         }
     }

@@ -12,7 +12,7 @@ pub(crate) fn index_labels(file: &[u8], starts: &mut [u32], lengths: &mut [u32])
     let mut i = 0;
     let mut at = 7;
     while at < file.len() {
-        let size = form::two_bytes_lem(file, at + 2);
+        let size = form::two_bytes(file, at + 2);
         starts[i] = (at + 4) as u32;
         lengths[i] = size as u32;
         at += 4 + size;

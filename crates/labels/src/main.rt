@@ -1,4 +1,6 @@
 // `labels K CUTOFF`: FASTA or plain lines on standard input, as a label file on standard output.
+#![tactic(auto)]
+
 ghost use Rattle.std.specs.Prelude.{◌≡◌};
 ghost use Rattle.labels.specs.Spelled.{spelled, Given};
 
@@ -7,7 +9,7 @@ use libc::{STDERR_FILENO, STDOUT_FILENO};
 use reading::Input;
 
 // A number that an argument says.
-#[derive(Drop)]
+#[derive(Clone, Copy)]
 enum Number {
     Is(u32),
     Bad,

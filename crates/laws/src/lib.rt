@@ -1,1 +1,2 @@
 // Theorems about the definitions of the crates below; no code stands here.
+#![tactic(auto)]

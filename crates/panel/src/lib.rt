@@ -1,6 +1,8 @@
 // Probes for a panel: of each label of a list, the first part of a stated length of which neither too few nor too
 // many bases are G or C. Labels and their index are all that is known here; for which lists no two probes have a
 // k-mer in common is said in the crate `demands`.
+#![tactic(auto)]
+
 ghost use Rattle.std.specs.Prelude.{◌≡◌, ◌^◌, ◌<◌, ◌≤◌, true, length};
 ghost use Rattle.dna.specs.Text.{over};
 ghost use Rattle.label_index.specs.Entries.{within};
@@ -15,7 +17,7 @@ pub const NONE: u32 = 0xffff_ffff;
 
 // The number of labels answered; K, cutoff or length outside the profile; least above most or most above the length;
 // an index slice is shorter than the count, or an entry lies past the labels; the answers exceed their slice.
-#[derive(Drop)]
+#[derive(Clone, Copy)]
 pub enum PanelAnswer {
     Answered(usize),
     OutOfProfile,

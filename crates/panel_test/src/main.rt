@@ -1,6 +1,8 @@
 // Asks for panels of seven labels, among them an empty one and one with other letters, and prints each answer with
 // every cell of the lent slice. The file `stdout` beside this is written by oracle/panel_test.py, from document 02's
 // rules alone.
+#![tactic(auto)]
+
 use libc::STDOUT_FILENO;
 use panel::PanelAnswer;
 

@@ -1,10 +1,12 @@
 // A file, or standard input, read whole. What it holds is the world's, so the contracts say only how much of the buffer it took.
+#![tactic(auto)]
+
 ghost use Rattle.reading.specs.Within.{Within};
 
 use libc::STDIN_FILENO;
 
 // The bytes of the input, or that it could not be read.
-#[derive(Drop)]
+#[derive(Clone, Copy)]
 pub enum Input {
     Bytes(usize),
     Failed,

@@ -3,7 +3,7 @@ use super::{found, read};
 use adding::AddAnswer;
 
 // The edges of a label and the vertices stored after it; and what was found so far.
-#[derive(Drop)]
+#[derive(Clone, Copy)]
 struct After {
     edges: usize,
     stored: usize,

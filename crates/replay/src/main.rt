@@ -1,6 +1,8 @@
 // Compares recorded answers of the Rust original with the library's. Each data file holds cases of one kind; a line says how many
 // were compared and how many differ. A file that is missing or empty, or ends within a case, is said to be so instead.
 // The first ten cases of a file that differ are named, counted from 1.
+#![tactic(auto)]
+
 use libc::STDOUT_FILENO;
 
 mod files;
@@ -10,7 +12,7 @@ mod labels;
 mod read;
 mod tables;
 
-#[derive(Drop)]
+#[derive(Clone, Copy)]
 struct Tally {
     compared: usize,
     differ: usize,

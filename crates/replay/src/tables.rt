@@ -3,7 +3,7 @@ use super::{found, read};
 use contraction::ContractAnswer;
 
 // The number of the refusal, 0 where there is none, and the labels and bases listed.
-#[derive(Drop)]
+#[derive(Clone, Copy)]
 struct Totals {
     refusal: u64,
     labels: usize,

@@ -1,4 +1,6 @@
 // The edges of a vertex in one word: counted, or marked as present.
+#![tactic(auto)]
+
 ghost use Rattle.std.specs.Prelude.{◌≡◌};
 ghost use Rattle.state.specs.Counted.{opposite};
 
@@ -12,82 +14,82 @@ mod presence;
 pub use either::{answers_for, edge_of, update_edges};
 
 // Side of a canonical k-mer: Front before its first base, Back behind its last.
-#[derive(Drop)]
+#[derive(Clone, Copy)]
 pub enum Side {
     Front,
     Back,
 }
 
 // What the words of a table keep of edges: counts, or presence bits.
-#[derive(Drop)]
+#[derive(Clone, Copy)]
 pub enum EdgeKind {
     Counted,
     Presence,
 }
 
 // The counters of a vertex's edges: four bits each, A, C, G, T of Front from bit 0 and of Back from bit 16.
-#[derive(Drop)]
+#[derive(Clone, Copy)]
 pub struct EdgeFrequency {
     pub packed: u32,
 }
 
 // The presence bits of a vertex's edges: A, C, G, T of Front at bits 3 to 6 and of Back at bits 7 to 10.
-#[derive(Drop)]
+#[derive(Clone, Copy)]
 pub struct EdgePresence {
     pub flags: u32,
 }
 
 // The counters afterwards, or that an edge was no base, where nothing is counted.
-#[derive(Drop)]
+#[derive(Clone, Copy)]
 pub enum Counting {
     Done(EdgeFrequency),
     NoBase,
 }
 
 // The presence bits afterwards, or that an edge was no base, where none is set.
-#[derive(Drop)]
+#[derive(Clone, Copy)]
 pub enum Marking {
     Done(EdgePresence),
     NoBase,
 }
 
 // A vertex's word afterwards, or that an edge was no base, where it stays.
-#[derive(Drop)]
+#[derive(Clone, Copy)]
 pub enum WordAnswer {
     Done(u32),
     NoBase,
 }
 
 // A count, or that no base was asked for.
-#[derive(Drop)]
+#[derive(Clone, Copy)]
 pub enum Frequency {
     Count(u32),
     NoBase,
 }
 
 // The one edge of a side, or that presence bits do not answer for the cutoff.
-#[derive(Drop)]
+#[derive(Clone, Copy)]
 pub enum EdgeAnswer {
     Edge(Base),
     WrongCutoff,
 }
 
 // How many edges a side has, or that presence bits do not answer for the cutoff.
-#[derive(Drop)]
+#[derive(Clone, Copy)]
 pub enum NumberAnswer {
     Edges(u32),
     WrongCutoff,
 }
 
 // Whether it is so, or that presence bits do not answer for the cutoff.
-#[derive(Drop)]
+#[derive(Clone, Copy)]
 pub enum TestAnswer {
     Is(bool),
     WrongCutoff,
 }
 
 // How many bits a counter has, the bit at which the first starts, and the most that one counts.
-#[derive(Drop)]
+#[derive(Clone, Copy)]
 struct Layout {
     width: u32,
     first: u32,
@@ -95,7 +97,7 @@ struct Layout {
 }
 
 // A side's four tests added up: how many bases are retained, and the sum of their codes, which is the base where there is one.
-#[derive(Drop)]
+#[derive(Clone, Copy)]
 struct Tally {
     edges: u32,
     codes: u32,

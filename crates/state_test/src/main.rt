@@ -2,6 +2,8 @@
 // and pair of neighbours added to one word. Then what presence bits answer: in each of their 256 words and in some with stray bits,
 // and every edge and pair of neighbours added to some words. The file `stdout` beside this holds what the Rust original answers to
 // the same questions (oracle/).
+#![tactic(auto)]
+
 use dna::Base;
 use libc::STDOUT_FILENO;
 use state::{

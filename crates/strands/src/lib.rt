@@ -1,4 +1,6 @@
 // A label in its place: turned to its other strand, or made the smaller of the two.
+#![tactic(auto)]
+
 ghost use Rattle.std.specs.Prelude.{◌≡◌};
 ghost use Rattle.dna.specs.Letters.{reverse_complement};
 ghost use Rattle.dna.specs.Order.{before};

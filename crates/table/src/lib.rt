@@ -1,4 +1,6 @@
 // The table as lent: keys, two words for each vertex, low word first, in ascending order, and counts, a word for each.
+#![tactic(auto)]
+
 ghost use Rattle.std.specs.Prelude.{◌≡◌, min};
 ghost use Rattle.graph.specs.Table.{capacity as room};
 
@@ -12,13 +14,13 @@ pub use joining::join;
 pub use search::{find, find_between};
 
 // Where a k-mer stands among the keys, or where it would be put in.
-#[derive(Drop)]
+#[derive(Clone, Copy)]
 pub enum Found {
     At(usize),
     Gap(usize),
 }
 
-#[derive(Drop)]
+#[derive(Clone, Copy)]
 pub enum FitAnswer {
     Fit,
     Unfit,
@@ -27,7 +29,7 @@ pub enum FitAnswer {
 
 // The number of vertices afterwards; no room for so many; or that there are fewer new ones than said, or places that fall or
 // are past the end.
-#[derive(Drop)]
+#[derive(Clone, Copy)]
 pub enum JoinAnswer {
     Joined(usize),
     Full,

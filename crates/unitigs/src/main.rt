@@ -1,4 +1,6 @@
 // `unitigs`: a label file on standard input; its unitigs as FASTA, or the line of a refusal, on standard output.
+#![tactic(auto)]
+
 ghost use Rattle.std.specs.Prelude.{◌≡◌, ◌≤◌, length, take, replicate};
 ghost use Rattle.label_file.specs.Output.{unitigs};
 
