@@ -1,0 +1,68 @@
+-- Without room the table stays; with room counting the stored and putting in the new leaves what the definition says. Assumes nothing.
+use mathlib.Core.Path.{◌≡◌}
+use Prim.Native.Nat.{◌+◌, ◌-◌}
+use native.Mathlib.Omega.{arith}
+use lib.ListN.{length}
+use Rattle.graph.specs.Table.{keys_of}
+use Rattle.graph.specs.Sightings.{windows}
+use Rattle.graph.proofs.Accepted.{fit_room, fit_sound}
+use Rattle.adding.specs.Says.{rule_of}
+use Rattle.adding.proofs.Batch.{batch_few}
+use Rattle.adding.proofs.Noted.{looked_all, known}
+use Rattle.adding.proofs.Finish.{adds_full, adds_joined}
+use Rattle.adding.proofs.label.add_with.Goals as goal
+
+pub overflow_sub-edges : goal.overflow_sub-edges
+overflow_sub-edges c = omega (arith, c.requires.addable.given.long)
+
+pub make_vertices-new-requires : goal.make_vertices-new-requires
+make_vertices-new-requires c =
+    let y = c.requires in
+    let f = y.addable.fits in
+    let room = fit_room c.args.k c.args.n c.args.keys.now c.args.counts.now f in (
+      record {
+        given = y.addable.given;
+        fits = (fit_sound c.args.k c.args.n c.args.keys.now c.args.counts.now f).fits;
+        within = omega arith;
+        few = omega arith;
+        room_notes = y.room_notes;
+        room_places = y.room_places;
+        room_keys = y.room_keys;
+        room_offsets = y.room_offsets;
+      },
+      y.room_new_places,
+      y.room_new_counts,
+    )
+
+pub overflow_add-n : goal.overflow_add-n
+overflow_add-n c =
+    let y = c.requires.addable in
+    let room = fit_room c.args.k c.args.n c.args.keys.now c.args.counts.now y.fits in
+    record { fits = omega (arith, room, batch_few y c.make_vertices-new.ensures.1, y.given.short) }
+
+pub returns-then-capacity-n : goal.returns-then-capacity-n
+returns-then-capacity-n c =
+    adds_full c.requires.addable c.make_vertices-new.ensures.1
+    (omega (arith, c.capacity.ensures, c.if-capacity-n.true))
+
+pub overflow_add-edges : goal.overflow_add-edges
+overflow_add-edges c = record { fits = omega (arith, c.requires.addable.given.short) }
+
+pub raise_known-requires : goal.raise_known-requires
+raise_known-requires c =
+    let y = c.requires in
+    let long = c.make_vertices-new.auto.1.1.1.1.1.1 in
+    known y.addable c.make_vertices-new.ensures.0 (omega (arith, y.addable.given.long))
+    (omega (arith, y.room_notes, long.0)) (omega (arith, y.room_places, long.1.0))
+
+pub returns : goal.returns
+returns c =
+    let y = c.requires.addable in
+    let long = c.make_vertices-new.auto.1.1.1.1.1.1.1.1.1.1 in
+    let all : length c.args.label.now - c.args.k + 1 ≡ windows c.args.k c.args.label.now = omega (arith, y.given.long) in
+    adds_joined y c.make_vertices-new.ensures.1 (omega (arith, c.capacity.ensures, c.if-capacity-n.false))
+    (omega (arith, c.requires.room_new_places, long.0)) (omega (arith, c.requires.room_new_counts, long.1.0)) all
+    (c.raise_known.ensures (rule_of c.args.mode) c.args.k c.args.label.now (keys_of c.args.n c.args.keys.now)
+    (fit_sound c.args.k c.args.n c.args.keys.now c.args.counts.now y.fits).fits
+    (looked_all y c.make_vertices-new.ensures.0 all))
+    c.join-done.ensures c.joined_answer.ensures

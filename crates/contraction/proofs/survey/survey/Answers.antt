@@ -1,0 +1,20 @@
+-- All walks are followed by a directory; what it says does not matter. Assumes nothing.
+use Prim.Native.Nat.{ℕ, ◌≤◌}
+use native.Mathlib.Omega.{arith}
+use lib.ListN.{length-take, length-replicate}
+use Rattle.directory.proofs.Cells.{cells_most}
+use Rattle.contraction.proofs.survey.survey.Goals as goal
+
+pub slice_bounds-directory-end : goal.slice_bounds-directory-end
+slice_bounds-directory-end c = rw c.cells_for-cells.ensures (cells_most _)
+
+pub slice_bounds-follow_by-end : goal.slice_bounds-follow_by-end
+slice_bounds-follow_by-end c =
+    let few : c.cells_for-cells.result ≤ 16385 = rw c.cells_for-cells.ensures (cells_most _) in
+    simp length-take (omega (arith, few, length-replicate {A = ℕ} 16385 0))
+
+pub follow_by-requires : goal.follow_by-requires
+follow_by-requires c = c.requires
+
+pub returns : goal.returns
+returns c = c.follow_by.ensures

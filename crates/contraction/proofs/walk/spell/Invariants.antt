@@ -1,0 +1,19 @@
+-- Each step takes one base of the walk, whose letter is written behind those before it, and the last leaves none. Assumes nothing.
+use Prim.Native.Nat.{◌-◌}
+use lib.ListN.{length}
+use Rattle.graph.specs.Walks.{seen}
+use Rattle.contraction.specs.Over.{walk_in}
+use Rattle.contraction.specs.Says.{Both}
+use Rattle.marks.specs.Ready.{keys_for}
+use Rattle.contraction.proofs.Walking.{Walking}
+use Rattle.contraction.proofs.Spelling.{Spelling}
+use Rattle.contraction.proofs.walk.spell.Given as goal
+
+abbrev pub invariant-loop-vertex : goal.invariant-loop-vertex
+invariant-loop-vertex l =
+    Walking l.k l.keys l.initial.marks l.anchor l.start l.bases l.v l.s l.marks
+    × Spelling (walk_in l.k l.keys l.initial.marks l.anchor l.start).bases l.initial.buffer l.at l.bases l.buffer
+    × Both l.k (seen l.k (keys_for l.initial.marks l.keys) l.v l.s) l.strands
+
+abbrev pub decreases-loop-vertex : goal.decreases-loop-vertex
+decreases-loop-vertex l = length (walk_in l.k l.keys l.initial.marks l.anchor l.start).bases - l.bases

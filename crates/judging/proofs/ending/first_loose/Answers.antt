@@ -1,0 +1,91 @@
+use mathlib.Core.Path.{◌∙◌}
+use mathlib.Core.List.{[], ◌∷◌}
+use Prim.Native.Nat.{◌-◌}
+use native.Mathlib.Omega.{arith}
+use Rattle.dna.specs.Text.{part}
+use Rattle.marks.specs.Marks.{ends}
+use Rattle.rules.specs.Verdict.{breaks4}
+use Rattle.marks.specs.Ready.{keys_for}
+use Rattle.judging.proofs.Passes.{pass_start, pass_record, pass_label, pass_found, pass_on, pass_end, any_done_4}
+use Rattle.judging.proofs.ending.first_loose.Goals as goal
+
+pub loop-at-init : goal.loop-at-init
+loop-at-init c =
+    let a = c.args in (
+      [],
+      pass_start a.k a.text.now (breaks4 a.k (keys_for a.marks.now a.keys.now)
+          (ends a.marks.now)) c.requires.1,
+    )
+
+pub label_at-label-requires : goal.label_at-label-requires
+label_at-label-requires c =
+    let l = c.loop-at in
+    let a = c.args in
+    pass_record a.k a.text.now (breaks4 a.k (keys_for a.marks.now a.keys.now) (ends a.marks.now))
+    l.invariant.1 c.loop-at-test.true
+
+pub slice_bounds-has_loose_end-count : goal.slice_bounds-has_loose_end-count
+slice_bounds-has_loose_end-count c = omega (arith, c.label_at-label.ensures.ordered)
+
+pub slice_bounds-has_loose_end-start : goal.slice_bounds-has_loose_end-start
+slice_bounds-has_loose_end-start c = omega (arith, c.label_at-label.ensures.ordered, c.label_at-label.ensures.within)
+
+pub slice_bounds-has_loose_end-end : goal.slice_bounds-has_loose_end-end
+slice_bounds-has_loose_end-end c = omega (arith, c.label_at-label.ensures.ordered, c.label_at-label.ensures.within)
+
+pub has_loose_end-requires : goal.has_loose_end-requires
+has_loose_end-requires c =
+    let l = c.loop-at in
+    let a = c.args in (
+      c.requires.0,
+      pass_label a.k a.text.now
+          (breaks4 a.k (keys_for a.marks.now a.keys.now) (ends a.marks.now)) l.invariant.1
+          c.loop-at-test.true c.label_at-label.ensures,
+    )
+
+pub returns-then-has_loose_end : goal.returns-then-has_loose_end
+returns-then-has_loose_end c =
+    let l = c.loop-at in
+    let a = c.args in
+    let g = c.label_at-label in
+    pass_found a.k a.text.now (breaks4 a.k (keys_for a.marks.now a.keys.now) (ends a.marks.now))
+    l.invariant.1 c.loop-at-test.true g.ensures
+    (c.has_loose_end.ensures ∙ any_done_4 a.k (keys_for a.marks.now a.keys.now)
+    (ends a.marks.now) l.invariant.0 (part a.text.now g.result.start (g.result.end - g.result.start)))
+    c.if-has_loose_end.true
+
+pub overflow_add-i : goal.overflow_add-i
+overflow_add-i c =
+    let l = c.loop-at in
+    let a = c.args in
+    let g = c.label_at-label in
+    omega (arith, l.invariant.1.few, l.invariant.1.inside, c.well-formed)
+
+pub overflow_add-at : goal.overflow_add-at
+overflow_add-at c = omega (arith, c.label_at-label.ensures.within, c.well-formed)
+
+pub loop-at-smaller : goal.loop-at-smaller
+loop-at-smaller c =
+    let g = c.label_at-label.ensures in
+    omega (arith, g.within, g.on)
+
+pub loop-at-preserved : goal.loop-at-preserved
+loop-at-preserved c =
+    let l = c.loop-at in
+    let a = c.args in
+    let g = c.label_at-label in (
+      (part a.text.now g.result.start (g.result.end - g.result.start)) ∷ l.invariant.0,
+      pass_on a.k
+          a.text.now (breaks4 a.k (keys_for a.marks.now a.keys.now) (ends a.marks.now)) l.invariant.1
+          c.loop-at-test.true g.ensures
+          (c.has_loose_end.ensures ∙ any_done_4 a.k (keys_for a.marks.now a.keys.now)
+          (ends a.marks.now) l.invariant.0 (part a.text.now g.result.start (g.result.end - g.result.start)))
+          c.if-has_loose_end.false,
+    )
+
+pub returns : goal.returns
+returns c =
+    let l = c.loop-at in
+    let a = c.args in
+    pass_end a.k a.text.now (breaks4 a.k (keys_for a.marks.now a.keys.now) (ends a.marks.now))
+    l.invariant.1 c.loop-at-test.false

@@ -1,0 +1,53 @@
+use native.Mathlib.Omega.{arith}
+use Rattle.judging.proofs.Passes.{ordering_start, ordering_record, ordering_few, ordering_end, ordering_found, ordering_on}
+use Rattle.judging.proofs.order.first_out.Goals as goal
+
+pub loop-at-init : goal.loop-at-init
+loop-at-init c = ordering_start c.args.text.now _ (omega arith)
+
+pub label_at-label-requires : goal.label_at-label-requires
+label_at-label-requires c =
+    let l = c.loop-at in
+    let a = c.args in
+    ordering_record a.text.now l.i l.before l.at l.invariant c.requires.0 c.requires.1 c.loop-at-test.true
+
+pub is_out-requires : goal.is_out-requires
+is_out-requires c =
+    let l = c.loop-at in
+    (l.invariant.0, c.label_at-label.ensures.ordered, omega (arith, c.label_at-label.ensures.within))
+
+pub returns-then-is_out : goal.returns-then-is_out
+returns-then-is_out c =
+    let l = c.loop-at in
+    let a = c.args in
+    ordering_found a.text.now l.i l.before l.at l.invariant c.loop-at-test.true
+    c.label_at-label.result c.label_at-label.ensures c.is_out.ensures
+    c.if-is_out.true
+
+pub overflow_add-i : goal.overflow_add-i
+overflow_add-i c =
+    let l = c.loop-at in
+    let a = c.args in
+    omega (arith, ordering_few a.text.now l.i l.before l.at l.invariant c.requires.0 c.requires.1, c.well-formed)
+
+pub overflow_add-at : goal.overflow_add-at
+overflow_add-at c = omega (arith, c.label_at-label.ensures.within, c.well-formed)
+
+pub loop-at-smaller : goal.loop-at-smaller
+loop-at-smaller c =
+    let g = c.label_at-label.ensures in
+    omega (arith, g.within, g.on)
+
+pub loop-at-preserved : goal.loop-at-preserved
+loop-at-preserved c =
+    let l = c.loop-at in
+    let a = c.args in
+    ordering_on a.text.now l.i l.before l.at l.invariant c.loop-at-test.true
+    c.label_at-label.result c.label_at-label.ensures c.is_out.ensures
+    c.if-is_out.false
+
+pub returns : goal.returns
+returns c =
+    let l = c.loop-at in
+    let a = c.args in
+    ordering_end a.text.now l.i l.before l.at l.invariant c.loop-at-test.false

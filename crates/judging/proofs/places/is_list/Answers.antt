@@ -1,0 +1,89 @@
+use mathlib.Core.Path.{refl, sym, ◌∙◌}
+use native.Mathlib.Omega.{arith}
+use Rattle.judging.proofs.Lines.{held_end, held_no_line, held_no_second, held_no_header, held_no_label, held_on}
+use Rattle.judging.proofs.places.is_list.Goals as goal
+
+pub loop-at-init : goal.loop-at-init
+loop-at-init c = (omega arith, refl)
+
+pub line_end-head-requires : goal.line_end-head-requires
+line_end-head-requires c = omega (arith, c.loop-at-test.true)
+
+pub returns-then-head-text : goal.returns-then-head-text
+returns-then-head-text c =
+    let l = c.loop-at in
+    let a = c.args in
+    sym (l.invariant.1 ∙ held_no_line a.k a.text.now l.at c.line_end-head.result
+    c.loop-at-test.true c.line_end-head.ensures c.if-head-text.true)
+
+pub line_end-end-requires : goal.line_end-end-requires
+line_end-end-requires c = omega (arith, c.line_end-head.ensures.within, c.if-head-text.false)
+
+pub returns-then-end-text : goal.returns-then-end-text
+returns-then-end-text c =
+    let l = c.loop-at in
+    let a = c.args in
+    let g = c.line_end-head.ensures in
+    sym (l.invariant.1 ∙ held_no_second a.k a.text.now l.at c.line_end-head.result g
+    (omega (arith, g.within, c.if-head-text.false)) c.line_end-end.result
+    c.line_end-end.ensures c.if-end-text.true)
+
+pub returns-then-text-at-ne62 : goal.returns-then-text-at-ne62
+returns-then-text-at-ne62 c =
+    let l = c.loop-at in
+    let a = c.args in
+    let g = c.line_end-head.ensures in
+    let k = c.line_end-end.ensures in
+    sym (l.invariant.1 ∙ held_no_header a.k a.text.now l.at c.line_end-head.result g
+    (omega (arith, g.within, c.if-head-text.false)) c.line_end-end.result k
+    (omega (arith, k.within, c.if-end-text.false)) c.if-text-at-ne62.true)
+
+pub slice_bounds-is_label-count : goal.slice_bounds-is_label-count
+slice_bounds-is_label-count c = omega (arith, c.line_end-end.ensures.behind)
+
+pub slice_bounds-is_label-start : goal.slice_bounds-is_label-start
+slice_bounds-is_label-start c = omega (arith, c.line_end-end.ensures.behind, c.line_end-end.ensures.within)
+
+pub slice_bounds-is_label-end : goal.slice_bounds-is_label-end
+slice_bounds-is_label-end c = omega (arith, c.line_end-end.ensures.behind, c.line_end-end.ensures.within)
+
+pub returns-then-not-is_label : goal.returns-then-not-is_label
+returns-then-not-is_label c =
+    let l = c.loop-at in
+    let a = c.args in
+    let g = c.line_end-head.ensures in
+    let k = c.line_end-end.ensures in
+    sym (l.invariant.1 ∙ held_no_label a.k a.text.now l.at c.line_end-head.result g
+    (omega (arith, g.within, c.if-head-text.false)) c.line_end-end.result k
+    (omega (arith, k.within, c.if-end-text.false)) c.if-text-at-ne62.false c.is_label.ensures
+    c.if-not-is_label.true)
+
+pub overflow_add-at : goal.overflow_add-at
+overflow_add-at c =
+    let k = c.line_end-end.ensures in
+    omega (arith, k.within, c.well-formed)
+
+pub loop-at-smaller : goal.loop-at-smaller
+loop-at-smaller c =
+    let k = c.line_end-end.ensures in
+    let g = c.line_end-head.ensures in
+    omega (arith, k.within, k.behind, g.behind, c.if-end-text.false)
+
+pub loop-at-preserved : goal.loop-at-preserved
+loop-at-preserved c =
+    let l = c.loop-at in
+    let a = c.args in
+    let g = c.line_end-head.ensures in
+    let k = c.line_end-end.ensures in (
+      omega (arith, k.within, c.if-end-text.false),
+      l.invariant.1 ∙ held_on a.k a.text.now l.at
+          c.line_end-head.result g (omega (arith, g.within, c.if-head-text.false)) c.line_end-end.result
+          k (omega (arith, k.within, c.if-end-text.false)) c.if-text-at-ne62.false c.is_label.ensures
+          c.if-not-is_label.false,
+    )
+
+pub returns : goal.returns
+returns c =
+    let l = c.loop-at in
+    let a = c.args in
+    sym (l.invariant.1 ∙ held_end a.k a.text.now l.at c.loop-at-test.false l.invariant.0)
