@@ -1,15 +1,16 @@
 use mathlib.Core.Path.{refl}
-use mathlib.Core.Logic.{◌⊎◌, inl, inr, ⊎_elim}
+use mathlib.Core.Logic.{◌⊎◌, inl, inr}
 use Prim.Native.Nat.{◌+◌, ◌≤◌, ◌<◌}
 use native.Mathlib.Nat.{mod-lt}
 use native.Mathlib.Numerals.{lt_of_le_of_ne}
 use native.Mathlib.Omega.{arith}
 use borrow.Author.Rules.{rules}
-use borrow.Author.Tests.{ltb-true, ltb-false}
+use borrow.Author.Tests.{ltb-true}
 use lib.ListN.{length}
 use Rattle.dna.proofs.Rotations.{short}
 use Rattle.dna.proofs.Chase.{chase_start, chase_turn, chase_on, chase_skip, chase_ends}
 use Rattle.dna.proofs.labels.least_rotation_start.Goals as goal
+use Rattle.dna.proofs.labels.least_rotation_start.Goals.{then-loop-i-test+then-j-n+else-k-n, then-loop-i-test+else-j-n, else-loop-i-test}
 
 pub returns-then-n-le1 : goal.returns-then-n-le1
 returns-then-n-le1 c = short c.args.s.now (search rules)
@@ -113,9 +114,11 @@ returns-then-i-j-2 c =
     let h = c.loop-i in
     let a = c.args in
     let u : (length a.s.now ≤ h.j) ⊎ (length a.s.now ≤ h.k) =
-    ⊎_elim (λ w. inr (ltb-false _ _ w.2.left))
-    (⊎_elim (λ w. inl (omega (arith, ltb-false, c.if-i-j-2.true))) (λ w. inl (omega (arith, c.if-i-j-2.true))))
-    c.loop-i-test.branch-raw in
+    elim c.loop-i-test.branch [
+      then-loop-i-test+then-j-n+else-k-n w ↦ inr (omega (arith, w.if-k-n.false)) |
+      then-loop-i-test+else-j-n w ↦ inl (omega (arith, w.if-j-n.false)) |
+      else-loop-i-test w ↦ inl (omega (arith, w.loop-i-test.false))
+    ] in
     chase_ends a.s.now h.i h.j h.k h.invariant.2 (omega arith) c.if-i-j-2.true u
 
 pub returns-else-i-j-2 : goal.returns-else-i-j-2
@@ -123,7 +126,9 @@ returns-else-i-j-2 c =
     let h = c.loop-i in
     let a = c.args in
     let u : (length a.s.now ≤ h.i) ⊎ (length a.s.now ≤ h.k) =
-    ⊎_elim (λ w. inr (ltb-false _ _ w.2.left))
-    (⊎_elim (λ w. inl (omega (arith, ltb-false, c.if-i-j-2.false))) (λ w. inl (omega (arith, c.if-i-j-2.false))))
-    c.loop-i-test.branch-raw in
+    elim c.loop-i-test.branch [
+      then-loop-i-test+then-j-n+else-k-n w ↦ inr (omega (arith, w.if-k-n.false)) |
+      then-loop-i-test+else-j-n w ↦ inl (omega (arith, w.if-j-n.false)) |
+      else-loop-i-test w ↦ inl (omega (arith, w.loop-i-test.false))
+    ] in
     chase_ends a.s.now h.j h.i h.k (chase_turn h.invariant.2) (omega arith) (omega (arith, h.invariant.2.apart)) u

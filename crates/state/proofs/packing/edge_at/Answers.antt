@@ -28,11 +28,11 @@ returns-in_default-codes c =
     let t = c.tally-tally.ensures in
     let a = c.args in
     let base = (edge_one (kind_in a.l) a.cutoff a.word a.side).1 (sym t.edges ∙ c.in-1.is) in
-    omega (arith, t.codes c.in-1.is, c.in-0-codes.rest.1, c.in-0-codes.rest.0.1, c.in-0-codes.rest.0.0.1)
+    omega (arith, t.codes c.in-1.is, c.in_default-codes)
 
 pub returns-in_default : goal.returns-in_default
 returns-in_default c =
     let a = c.args in
     let many : 1 < edge_count (kind_in a.l) a.cutoff a.word a.side =
-    omega (arith, c.tally-tally.ensures.edges, c.in-0.rest.1, c.in-0.rest.0.1) in
+    omega (arith, c.tally-tally.ensures.edges, c.in_default) in
     sym ((edge_many (kind_in a.l) a.cutoff a.word a.side).1 many)
