@@ -80,6 +80,7 @@ module _ (P : List ℕ → Type 0) where
 
   put_there : (e : Entry) (es : List Entry) → Some P (labels_of es) → Some P (labels_of (put_in e es))
   unfolding put_in
+  put_there e [] s = elim s [ ]
   put_there e (m ∷ es) (here p) =
       choose (λ (z : List Entry). Some P (labels_of z)) (before m.label e.label) (λ _. here p) (λ _. there (here p))
   put_there e (m ∷ es) (there s) =

@@ -155,7 +155,8 @@ module _ (κ : Kind) (K : ℕ) (odd : K % 2 ≡ 1) where
       → AllAlike (add_each κ reversed K s ms) (add_each κ reversed K t ls)
   unfolding add_each
   each_alike none h = h
-  each_alike (more t ts) (all_same {s = s}) = tried s s.answer (each_alike ts (next_alike s t))
+  each_alike {s = s} (more {l = l} {m = m} {ls = ls} {ms = ms} t ts) all_same =
+      tried s s.answer (each_alike {s = add_next κ reversed K s m} ts (next_alike s t))
   each_alike (more t ts) last_no_base = last_no_base
 
   -- ---- a grown table

@@ -216,10 +216,10 @@ module _ (K : ℕ) (ks : List ℕ) (es : List Ends) (one : 1 ≤ K) (odd : K % 2
       (side_cases r t)
 
   -- Nor does it stand before u at all, where it is not the first.
-  not_before : {u v : ℕ} {s t : Side} → Wanted u s v t → (a : ℕ) {b c : ℕ} {ws : List ℕ} → Next b c ws → Steps K ks es (a ∷ ws)
+  not_before : {u v : ℕ} {s t : Side} → Wanted u s v t → {b c : ℕ} (a : ℕ) {ws : List ℕ} → Next b c ws → Steps K ks es (a ∷ ws)
       → canon K b ≡ key v → canon K c ≡ key u → last_of ws ≡ seen K ks u s → tally (key u) (map (canon K) (a ∷ ws)) ≤ 1 → ⊥
   unfolding tally last_of
-  not_before {u} {v} {s} {t} g a {b} {c} (now {zs = zs}) f cb cu l few = go zs f l few
+  not_before {u} {v} {s} {t} g {b} {c} a (now {zs = zs}) f cb cu l few = go zs f l few
     where
       here : eqb (canon K c) (key u) ≡ true
       here = eq-eqb (canon K c) (key u) cu

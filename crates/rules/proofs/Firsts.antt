@@ -61,6 +61,7 @@ module _ (test : Test) (P : Concern) (C : List (List ℕ) → List (List ℕ) �
           rw f (there (ih (keeps done l ls c e) (omega (arith, f))))
 
   lower : (done ls : List (List ℕ)) → C done ls → (j : ℕ) → j < first_of test done ls → At P done ls j → ⊥
+  lower done [] c j h a = elim a [ ]
   lower done (l ∷ ls) c zero h (here p) = omega (arith, first_here test done l ls (complete done l ls c p))
   lower done (l ∷ ls) c (suc j) h (there a) = go (lower (l ∷ done) ls) (test done l) refl
     where

@@ -70,6 +70,7 @@ module _ (K : ℕ) (ks : List ℕ) (es : List Ends) where
 
   none_bad : {x y : ℕ} (ws : List ℕ) → bad_step K ks es ws ≡ false → Next x y ws → is_step K ks es x y ≡ true
   unfolding bad_step
+  none_bad [] h n = elim n [ ]
   none_bad (x ∷ []) h (later n) = absurd (let z = next_long n in omega arith)
   none_bad (x ∷ y ∷ zs) h now = not-false (is_step K ks es x y) (or_first (not (is_step K ks es x y)) (bad_step K ks es (y ∷ zs)) h)
   none_bad (z ∷ w ∷ zs) h (later n) = none_bad (w ∷ zs) (or_second (not (is_step K ks es z w)) (bad_step K ks es (w ∷ zs)) h) n
