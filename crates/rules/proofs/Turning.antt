@@ -64,7 +64,7 @@ ends_together a b (z ∷ w ∷ ws) h p q d =
 next_last : {a b : ℕ} (zs : List ℕ) → Next a b zs → last_of zs ≡ a → 2 ≤ tally a zs
 unfolding tally last_of
 next_last [] n q = elim n [ ]
-next_last (a ∷ b ∷ zs) now q = rw (eq-eqb a a refl) (let s = last_stands b zs in let t : 1 ≤ tally a (b ∷ zs) = rw q at s in omega arith)
+next_last (a ∷ b ∷ zs) now q = rw (eq-eqb a a refl) (let t : 1 ≤ tally a (b ∷ zs) = subst (λ (n : ℕ). 1 ≤ tally n (b ∷ zs)) q (last_stands b zs) in omega arith)
 next_last (z ∷ []) (later n) q = absurd (let k = next_long n in omega arith)
 next_last (z ∷ w ∷ ws) (later n) q = omega (arith, next_last (w ∷ ws) n q)
 

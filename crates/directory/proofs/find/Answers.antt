@@ -1,5 +1,4 @@
 -- By the directory, and among all where there is none or the keys do not confirm it. Assumes nothing.
--- The slot and the one behind it have cells.
 use mathlib.Core.Path.{sym, ◌∙◌}
 use Prim.Native.Nat.{◌+◌, ◌<◌}
 use native.Mathlib.Omega.{arith}
@@ -11,11 +10,6 @@ use Rattle.directory.proofs.Cells.{bases_most}
 use Rattle.directory.proofs.Standing.{gap_most}
 use Rattle.directory.proofs.Looking.{look_room, look_few, look_at, look_gap, look_all}
 use Rattle.directory.proofs.find.Goals as goal
-
-room : (c : tie.After-slot-of) → c.slot_of.result + 1 < length c.before.before.before.before.before.args.directory.now
-room c =
-    let a = c.before.before.before.before.before.args in
-    look_room a.k a.directory.now (value_of a.x) _ _ c.before.before.bases-of.ensures c.before.if1.false c.slot_of.ensures
 
 pub returns-then-b-eq0 : goal.returns-then-b-eq0
 returns-then-b-eq0 c =
@@ -30,26 +24,41 @@ slot_of-t-requires c =
 
 pub offset_bounds-directory-t : goal.offset_bounds-directory-t
 offset_bounds-directory-t c =
-    let r = room c in search rules
+    let a = c.args in
+    let room : c.slot_of-t.result + 1 < length a.directory.now =
+      look_room a.k a.directory.now (value_of a.x) _ _ c.bases_of-b.ensures c.if-b-eq0.false c.slot_of-t.ensures in
+    search rules
 
 pub bounds-directory-t : goal.bounds-directory-t
 bounds-directory-t c =
-    let r = room c in search rules
+    let a = c.args in
+    let room : c.slot_of-t.result + 1 < length a.directory.now =
+      look_room a.k a.directory.now (value_of a.x) _ _ c.bases_of-b.ensures c.if-b-eq0.false c.slot_of-t.ensures in
+    search rules
 
 pub overflow_cast-lo : goal.overflow_cast-lo
 overflow_cast-lo c = omega (arith, c.type_inv.directory c.slot_of-t.result)
 
 pub overflow_add-hi : goal.overflow_add-hi
 overflow_add-hi c =
-    let r = room c in search rules
+    let a = c.args in
+    let room : c.slot_of-t.result + 1 < length a.directory.now =
+      look_room a.k a.directory.now (value_of a.x) _ _ c.bases_of-b.ensures c.if-b-eq0.false c.slot_of-t.ensures in
+    search rules
 
 pub offset_bounds-directory-t-2 : goal.offset_bounds-directory-t-2
 offset_bounds-directory-t-2 c =
-    let r = room c in search rules
+    let a = c.args in
+    let room : c.slot_of-t.result + 1 < length a.directory.now =
+      look_room a.k a.directory.now (value_of a.x) _ _ c.bases_of-b.ensures c.if-b-eq0.false c.slot_of-t.ensures in
+    search rules
 
 pub bounds-directory-t-2 : goal.bounds-directory-t-2
 bounds-directory-t-2 c =
-    let r = room c in search rules
+    let a = c.args in
+    let room : c.slot_of-t.result + 1 < length a.directory.now =
+      look_room a.k a.directory.now (value_of a.x) _ _ c.bases_of-b.ensures c.if-b-eq0.false c.slot_of-t.ensures in
+    search rules
 
 pub overflow_cast-hi : goal.overflow_cast-hi
 overflow_cast-hi c = omega (arith, c.type_inv.directory (c.slot_of-t.result + 1))

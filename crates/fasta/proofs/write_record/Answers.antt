@@ -23,12 +23,12 @@ slice_bounds-copy-start c = simp length-set (omega arith)
 pub bounds-out-n : goal.bounds-out-n
 bounds-out-n c = simp length-set (omega (arith, simp length-set at c.out-1.given.1))
 
-pub shape_of-out : goal.shape_of-out
-shape_of-out c =
-    let a = c.args in
-    ap length (returns c).1 ∙ length_over (record_of a.label.now) a.out.now (omega (arith, length_record a.label.now))
-
 pub returns : goal.returns
 returns c =
     let a = c.args in
     (refl, framed _ _ _ a.label.now a.out.now _ (omega arith) c.copy.ensures _ _ (omega arith))
+
+pub shape_of-out : goal.shape_of-out
+shape_of-out c =
+    let a = c.args in
+    ap length (returns c).1 ∙ length_over (record_of a.label.now) a.out.now (omega (arith, length_record a.label.now))

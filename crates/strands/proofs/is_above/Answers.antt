@@ -4,7 +4,7 @@ use Rattle.strands.proofs.Smaller.{above_here, below_here, alike_here, alike_who
 use Rattle.strands.proofs.is_above.Goals as goal
 
 pub loop-i-init : goal.loop-i-init
-loop-i-init c (refl, λ t h = absurd (omega arith))
+loop-i-init c = (refl, λ t h. absurd (omega arith))
 
 pub returns-then-x-y : goal.returns-then-x-y
 returns-then-x-y c =

@@ -51,17 +51,17 @@ overflow_add-edges c = record { fits = omega (arith, c.requires.addable.given.sh
 pub raise_known-requires : goal.raise_known-requires
 raise_known-requires c =
     let y = c.requires in
-    let long = c.make_vertices-new.auto.1.1.1.1.1.1 in
+    let long = c.make_vertices-new.auto in
     known y.addable c.make_vertices-new.ensures.0 (omega (arith, y.addable.given.long))
-    (omega (arith, y.room_notes, long.0)) (omega (arith, y.room_places, long.1.0))
+    (omega (arith, y.room_notes, long.notes)) (omega (arith, y.room_places, long.places))
 
 pub returns : goal.returns
 returns c =
     let y = c.requires.addable in
-    let long = c.make_vertices-new.auto.1.1.1.1.1.1.1.1.1.1 in
+    let long = c.make_vertices-new.auto in
     let all : length c.args.label.now - c.args.k + 1 ≡ windows c.args.k c.args.label.now = omega (arith, y.given.long) in
     adds_joined y c.make_vertices-new.ensures.1 (omega (arith, c.capacity.ensures, c.if-capacity-n.false))
-    (omega (arith, c.requires.room_new_places, long.0)) (omega (arith, c.requires.room_new_counts, long.1.0)) all
+    (omega (arith, c.requires.room_new_places, long.new_places)) (omega (arith, c.requires.room_new_counts, long.new_counts)) all
     (c.raise_known.ensures (rule_of c.args.mode) c.args.k c.args.label.now (keys_of c.args.n c.args.keys.now)
     (fit_sound c.args.k c.args.n c.args.keys.now c.args.counts.now y.fits).fits
     (looked_all y c.make_vertices-new.ensures.0 all))

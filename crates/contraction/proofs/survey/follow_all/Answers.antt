@@ -27,7 +27,7 @@ overflow_add-at c =
     let g = c.loop-a.invariant in
     let k = ends_length _ _ g.0.surveys.ends_kept in
     let fits = skip_fits g.0 g.1 (omega (arith, k)) (sym c.if-is_skipped.true ∙ c.is_skipped.ensures) in
-    omega (arith, fits, c.well-formed)
+    omega (arith, fits, c.well_formed)
 
 pub overflow_add-a : goal.overflow_add-a
 overflow_add-a c =
@@ -81,9 +81,6 @@ loop-a-preserved c =
       paving_take g.0 g.1 (omega (arith, k)) e c.extract-label.ensures,
     )
 
-pub shape_of-marks : goal.shape_of-marks
-shape_of-marks c = ends_length _ _ (returns c).0.ends_kept
-
 pub shape_of-trail : goal.shape_of-trail
 shape_of-trail c = let g = c.loop-a.invariant in paving_length g.0 g.1
 
@@ -96,3 +93,6 @@ returns c =
       subst (λ (n : ℕ). Surveys a.k a.keys.now a.marks.now n h.labels h.bases h.missing h.marks) e g.surveys,
       subst (λ (n : ℕ). h.trail ≡ over (trail_in a.k a.keys.now a.marks.now n) a.trail.now) e h.invariant.1.paved,
     )
+
+pub shape_of-marks : goal.shape_of-marks
+shape_of-marks c = ends_length _ _ (returns c).0.ends_kept

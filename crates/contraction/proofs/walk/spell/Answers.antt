@@ -38,7 +38,7 @@ pub overflow_add-buffer : goal.overflow_add-buffer
 overflow_add-buffer c =
     let g = c.loop-vertex.invariant in
     let less = walking_less g.0 c.advance.ensures c.in-Next.is in
-    omega (arith, less, g.1.room, c.well-formed)
+    omega (arith, less, g.1.room, c.well_formed)
 
 pub bounds-buffer-at : goal.bounds-buffer-at
 bounds-buffer-at c =
@@ -70,9 +70,6 @@ loop-vertex-preserved c =
       both_on g.2 _ ahead c.rolled-strands.ensures,
     )
 
-pub shape_of-marks-in-Stop : goal.shape_of-marks-in-Stop
-shape_of-marks-in-Stop c = ends_length _ _ (returns c).walks.ends_kept
-
 pub shape_of-buffer-in-Stop : goal.shape_of-buffer-in-Stop
 shape_of-buffer-in-Stop c =
     let g = c.loop-vertex.invariant in spelling_length g.1 g.0.within
@@ -82,8 +79,8 @@ returns-in-Stop c =
     let g = c.loop-vertex.invariant in
     spelling_ends (walking_ends g.0 c.advance.ensures c.in-Stop.is refl) g.1
 
-pub shape_of-marks-in-Missing : goal.shape_of-marks-in-Missing
-shape_of-marks-in-Missing c = ends_length _ _ (returns-2 c).walks.ends_kept
+pub shape_of-marks-in-Stop : goal.shape_of-marks-in-Stop
+shape_of-marks-in-Stop c = ends_length _ _ (returns-in-Stop c).walks.ends_kept
 
 pub shape_of-buffer-in-Missing : goal.shape_of-buffer-in-Missing
 shape_of-buffer-in-Missing c =
@@ -93,3 +90,6 @@ pub returns-in-Missing : goal.returns-in-Missing
 returns-in-Missing c =
     let g = c.loop-vertex.invariant in
     spelling_ends (walking_ends g.0 c.advance.ensures c.in-Missing.is refl) g.1
+
+pub shape_of-marks-in-Missing : goal.shape_of-marks-in-Missing
+shape_of-marks-in-Missing c = ends_length _ _ (returns-in-Missing c).walks.ends_kept

@@ -6,28 +6,35 @@ use Rattle.contraction.specs.Trail.{letter_count}
 use Rattle.contraction.proofs.Reading.{count_more, count_ends}
 use Rattle.contraction.proofs.write.walk_length.Goals as goal
 
-more : (c : tie.Then1 invariant-loop decreases-loop) →
-    let a = c.before.before.before.args in
-    c.before.before.loop.i < letter_count (drop a.from a.trail.now)
-more c =
-    let a = c.before.before.before.args in
-    let l = c.before.before.loop in
-    count_more (drop a.from a.trail.now) l.i l.invariant (rw (get_or-drop a.from a.trail.now l.i 0) c.if1.true)
-
 pub overflow_add-from : goal.overflow_add-from
-overflow_add-from c = omega (arith, c.loop-i.invariant, c.requires.within, length-drop c.args.from c.args.trail.now, c.well-formed)
+overflow_add-from c = omega (arith, c.loop-i.invariant, c.requires.within, length-drop c.args.from c.args.trail.now, c.well_formed)
 
 pub bounds-trail-from : goal.bounds-trail-from
 bounds-trail-from c = omega (arith, c.loop-i.invariant, c.requires.within, length-drop c.args.from c.args.trail.now)
 
 pub overflow_add-i : goal.overflow_add-i
-overflow_add-i c = omega (arith, more c, c.requires.within, length-drop c.args.from c.args.trail.now, c.well-formed)
+overflow_add-i c =
+    let a = c.args in
+    let l = c.loop-i in
+    let more : l.i < letter_count (drop a.from a.trail.now) =
+      count_more (drop a.from a.trail.now) l.i l.invariant (rw (get_or-drop a.from a.trail.now l.i 0) c.loop-i-test.true) in
+    omega (arith, more, c.requires.within, length-drop c.args.from c.args.trail.now, c.well_formed)
 
 pub loop-i-smaller : goal.loop-i-smaller
-loop-i-smaller c = omega (arith, more c)
+loop-i-smaller c =
+    let a = c.args in
+    let l = c.loop-i in
+    let more : l.i < letter_count (drop a.from a.trail.now) =
+      count_more (drop a.from a.trail.now) l.i l.invariant (rw (get_or-drop a.from a.trail.now l.i 0) c.loop-i-test.true) in
+    omega (arith, more)
 
 pub loop-i-preserved : goal.loop-i-preserved
-loop-i-preserved c = omega (arith, more c)
+loop-i-preserved c =
+    let a = c.args in
+    let l = c.loop-i in
+    let more : l.i < letter_count (drop a.from a.trail.now) =
+      count_more (drop a.from a.trail.now) l.i l.invariant (rw (get_or-drop a.from a.trail.now l.i 0) c.loop-i-test.true) in
+    omega (arith, more)
 
 pub returns : goal.returns
 returns c =

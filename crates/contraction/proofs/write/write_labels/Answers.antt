@@ -22,7 +22,7 @@ pub bounds-trail-from : goal.bounds-trail-from
 bounds-trail-from c = place_inside (standing c.loop-a.invariant c.loop-a-test.true)
 
 pub overflow_add-from : goal.overflow_add-from
-overflow_add-from c = omega (arith, place_inside (standing c.loop-a.invariant c.loop-a-test.true), c.well-formed)
+overflow_add-from c = omega (arith, place_inside (standing c.loop-a.invariant c.loop-a-test.true), c.well_formed)
 
 pub loop-a-preserved-then-trail-from-eq-SKIPPED : goal.loop-a-preserved-then-trail-from-eq-SKIPPED
 loop-a-preserved-then-trail-from-eq-SKIPPED c = listed_skip c.loop-a.invariant c.loop-a-test.true c.if-trail-from-eq-SKIPPED.true

@@ -9,26 +9,29 @@ use Rattle.directory.proofs.Leading.{slot_lt}
 use Rattle.directory.proofs.Tallying.{tally_next, tally_end}
 use Rattle.directory.proofs.making.tally.Goals as goal
 
-room : (c : tie.After-slot-of invariant-loop decreases-loop) → c.slot_of.result + 1 < length c.before.before.before.before.loop.directory
-room c =
-    let l = c.before.before.before.before.loop in
-    let s = c.before.before.before.before.before.before.before in
-    omega (arith, c.slot_of.ensures, slot_lt s.args.b s.args.k (key s.args.keys.now l.i), s.requires.3, l.invariant.1)
-
 pub loop-i-init : goal.loop-i-init
 loop-i-init c = (search rules, search rules, refl)
 
 pub overflow_add-t : goal.overflow_add-t
 overflow_add-t c =
-    let r = room c in search rules
+    let a = c.args in
+    let room : c.slot_of-t.result + 1 < length c.loop-i.directory =
+      omega (arith, c.slot_of-t.ensures, slot_lt a.b a.k (key a.keys.now c.loop-i.i), c.requires.3, c.loop-i.invariant.1) in
+    search rules
 
 pub offset_bounds-directory-t : goal.offset_bounds-directory-t
 offset_bounds-directory-t c =
-    let r = room c in search rules
+    let a = c.args in
+    let room : c.slot_of-t.result + 1 < length c.loop-i.directory =
+      omega (arith, c.slot_of-t.ensures, slot_lt a.b a.k (key a.keys.now c.loop-i.i), c.requires.3, c.loop-i.invariant.1) in
+    search rules
 
 pub bounds-directory-t : goal.bounds-directory-t
 bounds-directory-t c =
-    let r = room c in search rules
+    let a = c.args in
+    let room : c.slot_of-t.result + 1 < length c.loop-i.directory =
+      omega (arith, c.slot_of-t.ensures, slot_lt a.b a.k (key a.keys.now c.loop-i.i), c.requires.3, c.loop-i.invariant.1) in
+    search rules
 
 pub loop-i-preserved : goal.loop-i-preserved
 loop-i-preserved c =

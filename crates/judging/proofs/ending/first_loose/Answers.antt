@@ -59,10 +59,10 @@ overflow_add-i c =
     let l = c.loop-at in
     let a = c.args in
     let g = c.label_at-label in
-    omega (arith, l.invariant.1.few, l.invariant.1.inside, c.well-formed)
+    omega (arith, l.invariant.1.few, l.invariant.1.inside, c.well_formed)
 
 pub overflow_add-at : goal.overflow_add-at
-overflow_add-at c = omega (arith, c.label_at-label.ensures.within, c.well-formed)
+overflow_add-at c = omega (arith, c.label_at-label.ensures.within, c.well_formed)
 
 pub loop-at-smaller : goal.loop-at-smaller
 loop-at-smaller c =

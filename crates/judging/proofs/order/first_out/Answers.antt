@@ -28,10 +28,10 @@ pub overflow_add-i : goal.overflow_add-i
 overflow_add-i c =
     let l = c.loop-at in
     let a = c.args in
-    omega (arith, ordering_few a.text.now l.i l.before l.at l.invariant c.requires.0 c.requires.1, c.well-formed)
+    omega (arith, ordering_few a.text.now l.i l.before l.at l.invariant c.requires.0 c.requires.1, c.well_formed)
 
 pub overflow_add-at : goal.overflow_add-at
-overflow_add-at c = omega (arith, c.label_at-label.ensures.within, c.well-formed)
+overflow_add-at c = omega (arith, c.label_at-label.ensures.within, c.well_formed)
 
 pub loop-at-smaller : goal.loop-at-smaller
 loop-at-smaller c =

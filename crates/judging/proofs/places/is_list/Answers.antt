@@ -61,7 +61,7 @@ returns-then-not-is_label c =
 pub overflow_add-at : goal.overflow_add-at
 overflow_add-at c =
     let k = c.line_end-end.ensures in
-    omega (arith, k.within, c.well-formed)
+    omega (arith, k.within, c.well_formed)
 
 pub loop-at-smaller : goal.loop-at-smaller
 loop-at-smaller c =

@@ -22,7 +22,7 @@ overflow_sub-end c =
 pub overflow_add-end : goal.overflow_add-end
 overflow_add-end c =
     let h : c.args.k ≤ length c.args.label.now = c.requires.1.1 in
-    omega (arith, (ok_bounds c.args.k c.requires.0.ok).0, c.well-formed)
+    omega (arith, (ok_bounds c.args.k c.requires.0.ok).0, c.well_formed)
 
 pub loop-o-init : goal.loop-o-init
 loop-o-init c =

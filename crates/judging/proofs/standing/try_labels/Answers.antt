@@ -51,14 +51,14 @@ returns-in-Misplaced c =
 pub overflow_add-i : goal.overflow_add-i
 overflow_add-i c =
     let i = c.loop-at.invariant.1 in
-    omega (arith, i.passing.few, i.passing.inside, c.well-formed)
+    omega (arith, i.passing.few, i.passing.inside, c.well_formed)
 
 pub overflow_add-at : goal.overflow_add-at
 overflow_add-at c =
     omega (
       arith,
       c.label_at-label.ensures.within,
-      c.well-formed,
+      c.well_formed,
     )
 
 pub loop-at-smaller-in-BadStep : goal.loop-at-smaller-in-BadStep
@@ -78,19 +78,19 @@ loop-at-preserved-in-BadStep c =
 pub one_more-good-requires : goal.one_more-good-requires
 one_more-good-requires c =
     let i = c.loop-at.invariant.1 in
-    (i.fewer, omega (arith, i.passing.few, i.passing.inside, c.well-formed))
+    (i.fewer, omega (arith, i.passing.few, i.passing.inside, c.well_formed))
 
 pub overflow_add-i-in-Fine : goal.overflow_add-i-in-Fine
 overflow_add-i-in-Fine c =
     let i = c.loop-at.invariant.1 in
-    omega (arith, i.passing.few, i.passing.inside, c.well-formed)
+    omega (arith, i.passing.few, i.passing.inside, c.well_formed)
 
 pub overflow_add-at-in-Fine : goal.overflow_add-at-in-Fine
 overflow_add-at-in-Fine c =
     omega (
       arith,
       c.label_at-label.ensures.within,
-      c.well-formed,
+      c.well_formed,
     )
 
 pub loop-at-smaller : goal.loop-at-smaller

@@ -1,7 +1,7 @@
 -- In the order of the definition. Assumes nothing.
-use mathlib.Core.Logic.{⊎_elim}
 use Rattle.marks.proofs.Entering.{enter_past, enter_branching, enter_visited, enter_next}
 use Rattle.marks.proofs.ahead.enter.Goals as goal
+use Rattle.marks.proofs.ahead.enter.Goals.{then-w-marks+else-edge_in-eq4+else-mark-eq1, else-w-marks}
 
 pub returns-then-edge_in-eq4 : goal.returns-then-edge_in-eq4
 returns-then-edge_in-eq4 c =
@@ -18,9 +18,9 @@ returns-then-mark-eq1 c =
 pub returns : goal.returns
 returns c =
     let a = c.args in
-    ⊎_elim
-    (λ r.
-    enter_next a.marks.now a.anchor a.start a.w a.side a.base r.0.taken
-    r.2.ensures r.3.left r.4.left c.inverse.ensures)
-    (λ r. enter_past a.marks.now a.anchor a.start a.w a.side a.base r.left c.inverse.ensures)
-    c.if-w-marks.branch-raw
+    elim c.if-w-marks.branch [
+      then-w-marks+else-edge_in-eq4+else-mark-eq1 w ↦
+          enter_next a.marks.now a.anchor a.start a.w a.side a.base w.if-w-marks.true
+          w.edge_in.ensures w.if-edge_in-eq4.false w.if-mark-eq1.false c.inverse.ensures |
+      else-w-marks w ↦ enter_past a.marks.now a.anchor a.start a.w a.side a.base w.if-w-marks.false c.inverse.ensures
+    ]
