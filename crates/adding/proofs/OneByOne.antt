@@ -6,8 +6,6 @@ use Prim.Native.Nat.{ℕ, suc, ◌+◌, ◌-◌, ◌≤◌, ◌<◌}
 use native.Mathlib.Nat.{not-suc-le-zero}
 use native.Mathlib.Numerals.{add-one}
 use native.Mathlib.Omega.{arith}
-use denote.Enum.Declared.{tag_of}
-use types.Run.{OneOf, miss}
 use lib.ListN.{length, get_or, take, drop}
 use lib.Seq.{drop-cons}
 use Rattle.dna.specs.Answer.{gives, refuses}
@@ -23,7 +21,6 @@ use Rattle.adding.specs.Says.{add_answer, Adds, AddsLabels, Ready}
 use Rattle.adding.specs.declared.AddAnswer.{AddAnswer}
 use Rattle.adding.specs.declared.AddAnswer.TheVariants as add
 use Rattle.adding.specs.declared.LabelsAnswer.TheVariants as labels
-use Rattle.adding.specs.contracts.AddAnswer.{the_type}
 
 -- i labels were added, the last with so many edges.
 abbrev state : ℕ → ℕ → ℕ → List ℕ → List ℕ → Several
@@ -69,8 +66,8 @@ pub record Refused (r : AddAnswer) : Type 0 where
   pub values : List ℕ
   pub is : add_answer r ≡ refuses number values
 
-pub refused : (r : AddAnswer) → OneOf (1 ∷ 2 ∷ 3 ∷ 4 ∷ 5 ∷ []) (tag_of the_type r) → Refused r
-refused (add.Added e m) k = absurd (miss (1 ∷ 2 ∷ 3 ∷ 4 ∷ 5 ∷ []) 0 tt k)
+pub refused : (r : AddAnswer) → ((e m : ℕ) → r ≡ add.Added e m → ⊥) → Refused r
+refused (add.Added e m) k = absurd (k e m refl)
 refused (add.UnsupportedK x) k = record { number = 1; values = x ∷ []; is = refl }
 refused (add.InvalidBase place byte) k = record { number = 3; values = place ∷ byte ∷ []; is = refl }
 refused (add.TooLong x) k = record { number = 4; values = x ∷ []; is = refl }

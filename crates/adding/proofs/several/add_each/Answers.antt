@@ -40,7 +40,7 @@ pub shape_of-counts-in_default : goal.shape_of-counts-in_default
 shape_of-counts-in_default c = c.add_next-answer.auto.counts ∙ c.loop-i.invariant.long_counts
 
 pub returns-in_default : goal.returns-in_default
-returns-in_default c = added_ends c.loop-i.invariant c.loop-i-test.true refl refl c.add_next-answer.ensures (refused _ ?)
+returns-in_default c = added_ends c.loop-i.invariant c.loop-i-test.true refl refl c.add_next-answer.ensures (refused _ c.in_default.not-Added)
 
 pub shape_of-keys : goal.shape_of-keys
 shape_of-keys c = c.loop-i.invariant.long_keys
