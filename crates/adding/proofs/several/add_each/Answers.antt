@@ -1,5 +1,6 @@
 use mathlib.Core.Path.{refl, ◌∙◌}
 use native.Mathlib.Omega.{arith}
+use borrow.Author.Rules.{rules}
 use borrow.Author.Tests.{ltb-true}
 use Rattle.adding.proofs.OneByOne.{refused, added_none, added_all, entry_there, entry_inside, added_more, added_ends}
 use Rattle.adding.proofs.several.add_each.Goals as goal
@@ -7,11 +8,17 @@ use Rattle.adding.proofs.several.add_each.Goals as goal
 pub loop-i-init : goal.loop-i-init
 loop-i-init c = added_none c.requires
 
+pub offset_bounds-starts-i : goal.offset_bounds-starts-i
+offset_bounds-starts-i c = let there = (entry_there c.loop-i.invariant c.loop-i-test.true).0 in search rules
+
 pub bounds-starts-i : goal.bounds-starts-i
 bounds-starts-i c = (entry_there c.loop-i.invariant c.loop-i-test.true).0
 
 pub overflow_cast-start : goal.overflow_cast-start
 overflow_cast-start c = omega (arith, c.type_inv.starts c.loop-i.i)
+
+pub offset_bounds-lengths-i : goal.offset_bounds-lengths-i
+offset_bounds-lengths-i c = let there = (entry_there c.loop-i.invariant c.loop-i-test.true).1 in search rules
 
 pub bounds-lengths-i : goal.bounds-lengths-i
 bounds-lengths-i c = (entry_there c.loop-i.invariant c.loop-i-test.true).1

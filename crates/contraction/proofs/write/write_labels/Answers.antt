@@ -1,16 +1,9 @@
 use native.Mathlib.Omega.{arith}
-use Rattle.contraction.proofs.Ahead.{Ahead, ahead, listed_more}
+use Rattle.contraction.proofs.Ahead.{ahead, listed_more}
 use Rattle.contraction.proofs.Anchors.{anchor_small}
 use Rattle.contraction.proofs.Listed.{listed_none, listed_skip, listed_all, standing}
 use Rattle.contraction.proofs.Standing.{place_inside, piece_here}
 use Rattle.contraction.proofs.write.write_labels.Goals as goal
-
-ahead_of : (c : tie.Else1 invariant-loop decreases-loop) →
-    let l = c.before.before.before in
-    let a = l.before.before.before.before.before.before.before.args in
-    Ahead a.k a.keys.now a.trail.now l.loop.from l.loop.a l.loop.labels l.loop.at l.loop.buffer l.loop.starts
-    l.loop.lengths
-ahead_of c = let i = c.before.before in ahead i.before.loop.invariant i.loop-test.true c.if1.false
 
 pub loop-a-init : goal.loop-a-init
 loop-a-init c =
@@ -37,22 +30,22 @@ pub write_label-written-requires : goal.write_label-written-requires
 write_label-written-requires c =
     let g = c.loop-a.invariant in
     let l = c.loop-a-test.true in
-    (g.ready.ok, anchor_small g.ready c.loop-a.a l, piece_here (standing g l) c.if-trail-from-eq-SKIPPED.false, (ahead_of c).room)
+    (g.ready.ok, anchor_small g.ready c.loop-a.a l, piece_here (standing g l) c.if-trail-from-eq-SKIPPED.false, (ahead c.loop-a.invariant c.loop-a-test.true c.if-trail-from-eq-SKIPPED.false).room)
 
 pub overflow_cast-starts : goal.overflow_cast-starts
-overflow_cast-starts c = omega (arith, (ahead_of c).small)
+overflow_cast-starts c = omega (arith, (ahead c.loop-a.invariant c.loop-a-test.true c.if-trail-from-eq-SKIPPED.false).small)
 
 pub bounds-starts-labels : goal.bounds-starts-labels
-bounds-starts-labels c = (ahead_of c).start_room
+bounds-starts-labels c = (ahead c.loop-a.invariant c.loop-a-test.true c.if-trail-from-eq-SKIPPED.false).start_room
 
 pub overflow_cast-lengths : goal.overflow_cast-lengths
-overflow_cast-lengths c = omega (arith, (ahead_of c).small, c.write_label-written.ensures.bases)
+overflow_cast-lengths c = omega (arith, (ahead c.loop-a.invariant c.loop-a-test.true c.if-trail-from-eq-SKIPPED.false).small, c.write_label-written.ensures.bases)
 
 pub bounds-lengths-labels : goal.bounds-lengths-labels
-bounds-lengths-labels c = (ahead_of c).length_room
+bounds-lengths-labels c = (ahead c.loop-a.invariant c.loop-a-test.true c.if-trail-from-eq-SKIPPED.false).length_room
 
 pub overflow_add-at : goal.overflow_add-at
-overflow_add-at c = omega (arith, (ahead_of c).small, c.write_label-written.ensures.bases)
+overflow_add-at c = omega (arith, (ahead c.loop-a.invariant c.loop-a-test.true c.if-trail-from-eq-SKIPPED.false).small, c.write_label-written.ensures.bases)
 
 pub loop-a-preserved : goal.loop-a-preserved
 loop-a-preserved c = listed_more c.loop-a.invariant c.loop-a-test.true c.if-trail-from-eq-SKIPPED.false c.write_label-written.auto.buffer c.write_label-written.ensures

@@ -33,7 +33,7 @@ two_bytes-requires-in-Sound c =
     omega (arith, says_long file _ c.form.ensures c.in-Sound.is)
 
 pub returns-in-Damaged : goal.returns-in-Damaged
-returns-in-Damaged c = head_damaged c.args.file.now _ _ c.form.ensures c.«record».given.1
+returns-in-Damaged c = head_damaged c.args.file.now _ _ c.form.ensures c.in-Damaged.is
 
 pub returns-else-k-gt63 : goal.returns-else-k-gt63
 returns-else-k-gt63 c =

@@ -7,6 +7,6 @@ pub returns : goal.returns
 returns c =
     let p = c.put_numbers in
     (
-      line_made c.args.word.now p.new.1.1.0 _ _ p.result (omega arith) (omega arith) p.ensures.0 c.copy.ensures,
+      line_made c.args.word.now p.new.line _ _ p.result (omega arith) (omega arith) p.ensures.0 c.copy.ensures,
       omega (arith, p.ensures.2),
     )

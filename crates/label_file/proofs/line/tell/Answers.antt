@@ -7,4 +7,4 @@ returns c =
     let put = c.put_line in
     let m = c.make_line-start in
     let a = c.args in
-    fills_end m.new.1.1.1.0 a.text.now put.new.1.0 _ put.result m.result m.auto.line m.ensures.0 put.ensures
+    fills_end m.new.line a.text.now put.new.text _ put.result m.result m.auto.line m.ensures.0 put.ensures

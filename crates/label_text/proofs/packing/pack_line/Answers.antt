@@ -16,7 +16,7 @@ returns-then-fasta c =
     let added = c.add_letters in
     line_joins (part a.text.now a.from (a.to - a.from)) a.out.now a.at a.size c.requires.2 a.fasta
     c.if-fasta.true (sym c.is_header.ensures ∙ c.if-is_header.false)
-    added.result added.new.1.1.1.0 added.ensures
+    added.result added.new.out added.ensures
 
 pub returns-in_default : goal.returns-in_default
 returns-in_default c =
