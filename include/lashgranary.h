@@ -1,5 +1,5 @@
 /* Lashgranary for C: the calls of a pipeline over memory that the caller lends. The functions are those of the proved crate
- * capi; their contracts are in crates/capi/src.
+ * capi, and their contracts are in crates/capi/src; crates/capi_c exports them.
  *
  * Each slice is a pointer and its length in elements. A pointer must be aligned, not null (for a length of 0 too) and good for
  * its length, and a slice that is not const must overlap no other slice of the call.

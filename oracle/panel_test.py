@@ -35,7 +35,7 @@ source = open(os.path.join(crate, "src", "main.rt")).read()
 TEXT = re.search(r'fn text_of.*?b"(.*?)"', source, re.S)[1].replace("\\\n", "").encode()
 STARTS, LENGTHS = numbers("STARTS"), numbers("LENGTHS")
 lines = []
-for name, words in re.findall(r"\n    (eight|three|one)\(([\d, ]+)\);", source):
+for name, words in re.findall(r"\n    (eight|three|one)\((?:&?rt, )?([\d, ]+)\)", source):
     question = [int(word) for word in words.split(",")]
     out = [FREE] * ROOM[name]
     said = answer(*question, out)

@@ -1,5 +1,6 @@
-// The calls of a pipeline for C and Rust: each answers a refusal's number, 0 where there is none, and puts its figures, or what is returned beside
-// the refusal, into the first cells of a lent slice.
+// The calls of a pipeline in plain numbers and slices, which `capi_c` exports for C and Rust: each answers a refusal's
+// number, 0 where there is none, and puts its figures, or what is returned beside the refusal, into the first cells of
+// a lent slice.
 #![tactic(auto)]
 
 ghost use Rattle.std.specs.Prelude.{◌≡◌, [], ◌∷◌};
@@ -13,7 +14,8 @@ ghost use Rattle.adding.specs.Says.{add_answer, rule_of};
 ghost use Rattle.contraction.specs.Says.{contract_answer};
 ghost use Rattle.judging.specs.Answers.{judge_answer};
 ghost use Rattle.panel.specs.Panel.{panel};
-ghost use Rattle.capi.specs.Says.{edge_kind_of, mode_of, noted, of_edges, of_totals, of_verdict, Tells, AddsLabel, AddsSeveral, ContractsTable, FillsOut, JudgesText};
+ghost use Rattle.capi.specs.Says.{edge_kind_of, mode_of, noted, of_edges, of_totals, of_verdict};
+ghost use Rattle.capi.specs.Says.{Tells, AddsLabel, AddsSeveral, ContractsTable, FillsOut, JudgesText};
 
 mod runs;
 
@@ -129,7 +131,8 @@ fn kind_of(kind: u32) -> EdgeKind
     EdgeKind::Presence
 }
 
-// The mode that a number names: 0 the Rust's, any other the one that counts a step from a k-mer to itself on both its sides.
+// The mode that a number names: 0 the Rust's, any other the one that counts a step from a k-mer to itself on both its
+// sides.
 fn mode_of(number: u32) -> Mode
     ensures { result ≡ mode_of number }
 {
@@ -140,8 +143,7 @@ fn mode_of(number: u32) -> Mode
 }
 
 // `add_label`: figures are the edges and the number stored afterwards.
-#[unsafe(no_mangle)]
-pub extern "C" fn lash_add_label(
+pub fn lash_add_label(
     kind: u32,
     mode: u32,
     k: usize,
@@ -151,7 +153,8 @@ pub extern "C" fn lash_add_label(
     label: &[u8],
     figures: &mut [u64],
 ) -> u32
-    ensures { AddsLabel result keys.new counts.new figures.old figures.new (add_label (kind_of (edge_kind_of kind)) (rule_of (mode_of mode)) k n keys.old counts.old label.now) }
+    ensures { AddsLabel result keys.new counts.new figures.old figures.new
+        (add_label (kind_of (edge_kind_of kind)) (rule_of (mode_of mode)) k n keys.old counts.old label.now) }
 {
     let words = kind_of(kind);
     let chosen = mode_of(mode);
@@ -161,9 +164,9 @@ pub extern "C" fn lash_add_label(
     )
 }
 
-// `add_labels`: totals are the labels added and the number stored after them, figures those of the last label that was tried.
-#[unsafe(no_mangle)]
-pub extern "C" fn lash_add_labels(
+// `add_labels`: totals are the labels added and the number stored after them, figures those of the last label that was
+// tried.
+pub fn lash_add_labels(
     kind: u32,
     mode: u32,
     k: usize,
@@ -177,7 +180,9 @@ pub extern "C" fn lash_add_labels(
     totals: &mut [u64],
     figures: &mut [u64],
 ) -> u32
-    ensures { AddsSeveral result keys.new counts.new totals.old totals.new figures.old figures.new (add_labels (kind_of (edge_kind_of kind)) (rule_of (mode_of mode)) k n keys.old counts.old text.now starts.now lengths.now count) }
+    ensures { AddsSeveral result keys.new counts.new totals.old totals.new figures.old figures.new
+        (add_labels (kind_of (edge_kind_of kind)) (rule_of (mode_of mode)) k n
+        keys.old counts.old text.now starts.now lengths.now count) }
 {
     let words = kind_of(kind);
     let chosen = mode_of(mode);
@@ -200,8 +205,7 @@ pub extern "C" fn lash_add_labels(
 }
 
 // `contract`: figures are the number of labels and their bases.
-#[unsafe(no_mangle)]
-pub extern "C" fn lash_contract(
+pub fn lash_contract(
     kind: u32,
     k: usize,
     cutoff: u32,
@@ -214,7 +218,9 @@ pub extern "C" fn lash_contract(
     marks: &mut [u8],
     figures: &mut [u64],
 ) -> u32
-    ensures { ContractsTable result labels.new starts.new lengths.new marks.new figures.old figures.new (contract (kind_of (edge_kind_of kind)) k cutoff n keys.now counts.now labels.old starts.old lengths.old marks.old) }
+    ensures { ContractsTable result labels.new starts.new lengths.new marks.new figures.old figures.new
+        (contract (kind_of (edge_kind_of kind)) k cutoff n keys.now counts.now
+        labels.old starts.old lengths.old marks.old) }
 {
     let words = kind_of(kind);
     tell_contracted(
@@ -226,8 +232,7 @@ pub extern "C" fn lash_contract(
 }
 
 // `write_fasta`: the figure is the number of bytes written.
-#[unsafe(no_mangle)]
-pub extern "C" fn lash_write_fasta(
+pub fn lash_write_fasta(
     labels: &[u8],
     starts: &[u32],
     lengths: &[u32],
@@ -248,8 +253,7 @@ pub extern "C" fn lash_write_fasta(
 }
 
 // `judge`: figures are the first broken rule and the lowest label concerned, 0 and 0 where the list passes.
-#[unsafe(no_mangle)]
-pub extern "C" fn lash_judge(
+pub fn lash_judge(
     kind: u32,
     k: usize,
     cutoff: u32,
@@ -260,7 +264,8 @@ pub extern "C" fn lash_judge(
     marks: &mut [u8],
     figures: &mut [u64],
 ) -> u32
-    ensures { JudgesText result marks.new figures.old figures.new (judge (kind_of (edge_kind_of kind)) k cutoff n keys.now counts.now text.now marks.old) }
+    ensures { JudgesText result marks.new figures.old figures.new
+        (judge (kind_of (edge_kind_of kind)) k cutoff n keys.now counts.now text.now marks.old) }
 {
     let words = kind_of(kind);
     tell_judged(
@@ -270,8 +275,7 @@ pub extern "C" fn lash_judge(
 }
 
 // `panel`: the figure is the number of labels answered.
-#[unsafe(no_mangle)]
-pub extern "C" fn lash_panel(
+pub fn lash_panel(
     k: usize,
     cutoff: u32,
     probe: usize,

@@ -12,8 +12,7 @@ use colours::{
 };
 
 // `ColorCoordinate::discovered`: the figure is the coordinate.
-#[unsafe(no_mangle)]
-pub extern "C" fn lash_pack_coordinate(worker: u64, index: u64, figures: &mut [u64]) -> u32
+pub fn lash_pack_coordinate(worker: u64, index: u64, figures: &mut [u64]) -> u32
     ensures { Tells of_number (discovered_call worker index) result figures.old figures.new }
 {
     match ColorCoordinate::discovered(worker, index) {
@@ -26,8 +25,7 @@ pub extern "C" fn lash_pack_coordinate(worker: u64, index: u64, figures: &mut [u
 }
 
 // `worker` and `index` of a coordinate: the figures are these two.
-#[unsafe(no_mangle)]
-pub extern "C" fn lash_unpack_coordinate(coordinate: u64, figures: &mut [u64]) -> u32
+pub fn lash_unpack_coordinate(coordinate: u64, figures: &mut [u64]) -> u32
     ensures { Tells of_pair (parts_call coordinate) result figures.old figures.new }
 {
     match ColorCoordinate(coordinate).worker() {
@@ -43,8 +41,7 @@ pub extern "C" fn lash_unpack_coordinate(coordinate: u64, figures: &mut [u64]) -
 }
 
 // `UnitigColor::new`: the figure is the run.
-#[unsafe(no_mangle)]
-pub extern "C" fn lash_pack_run(offset: u32, coordinate: u64, figures: &mut [u64]) -> u32
+pub fn lash_pack_run(offset: u32, coordinate: u64, figures: &mut [u64]) -> u32
     ensures { Tells of_number (run_call offset coordinate) result figures.old figures.new }
 {
     match UnitigColor::new(VertexOffset(offset), ColorCoordinate(coordinate)) {
@@ -57,8 +54,7 @@ pub extern "C" fn lash_pack_run(offset: u32, coordinate: u64, figures: &mut [u64
 }
 
 // `offset` and `coordinate` of a run: the figures are these two. Every word is a run.
-#[unsafe(no_mangle)]
-pub extern "C" fn lash_unpack_run(run: u64, figures: &mut [u64]) -> u32
+pub fn lash_unpack_run(run: u64, figures: &mut [u64]) -> u32
     ensures { Tells of_pair (gives (offset_in run, coordinate_in run)) result
         figures.old figures.new }
 {
@@ -69,8 +65,7 @@ pub extern "C" fn lash_unpack_run(run: u64, figures: &mut [u64]) -> u32
 }
 
 // `check_runs`.
-#[unsafe(no_mangle)]
-pub extern "C" fn lash_check_runs(runs: &[u64], kmers: usize) -> u32
+pub fn lash_check_runs(runs: &[u64], kmers: usize) -> u32
     ensures { result ≡ number_of (check_call kmers runs.now) }
 {
     match colours::check_runs(runs, kmers) {
@@ -80,8 +75,7 @@ pub extern "C" fn lash_check_runs(runs: &[u64], kmers: usize) -> u32
 }
 
 // `color_at`: the figure is the coordinate of the colour.
-#[unsafe(no_mangle)]
-pub extern "C" fn lash_color_at(runs: &[u64], kmers: usize, vertex: u32, figures: &mut [u64]) -> u32
+pub fn lash_color_at(runs: &[u64], kmers: usize, vertex: u32, figures: &mut [u64]) -> u32
     ensures { Tells of_number (color_call kmers runs.now vertex) result
         figures.old figures.new }
 {
@@ -96,13 +90,7 @@ pub extern "C" fn lash_color_at(runs: &[u64], kmers: usize, vertex: u32, figures
 }
 
 // `write_colors`: the figure is the number of vertices whose colours were written.
-#[unsafe(no_mangle)]
-pub extern "C" fn lash_write_colors(
-    runs: &[u64],
-    kmers: usize,
-    out: &mut [u64],
-    figures: &mut [u64],
-) -> u32
+pub fn lash_write_colors(runs: &[u64], kmers: usize, out: &mut [u64], figures: &mut [u64]) -> u32
     ensures { FillsOut result out.new figures.old figures.new
         (colors_call kmers runs.now out.old) }
 {
