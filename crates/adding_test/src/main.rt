@@ -1,6 +1,6 @@
-// Adds labels to tables of each kind, in each mode. Prints what each call answers and then every cell of the lent slices, those past
-// the table too. The file `stdout` beside this is written by oracle/adding_test.py, from the rules of document 01 and of Q-1 and Q-3
-// alone.
+// Adds labels to tables of each kind, in each mode. Prints what each call answers and then every cell of the lent
+// slices, those past the table too. The file `stdout` beside this is written by oracle/adding_test.py, from the rules
+// of document 01 and of Q-1 and Q-3 alone.
 #![tactic(auto)]
 
 use adding::{AddAnswer, Mode};
