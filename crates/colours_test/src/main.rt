@@ -7,194 +7,173 @@ use colours::{
     ColorAnswer, ColorCoordinate, ColorsAnswer, CoordinateAnswer, PartAnswer, RunAnswer,
     RunsAnswer, UnitigColor, VertexOffset,
 };
-use libc::STDOUT_FILENO;
+use std::io;
 
 // What stands in a cell that nothing was written to.
 const FREE: u64 = 0xeeee;
 
-fn text(s: &[u8]) {
-    io::write_all(STDOUT_FILENO, s);
+fn number(rt: &impl Print, n: u64) -> io::Result<()> {
+    print!(rt; " {n}")
 }
 
-fn number(n: u64) {
-    text(b" ");
-    io::print_decimal(STDOUT_FILENO, n);
-}
-
-fn part(answer: PartAnswer) {
+fn part(rt: &impl Print, answer: PartAnswer) -> io::Result<()> {
     match answer {
-        PartAnswer::Is(n) => number(n),
-        PartAnswer::OutOfRange => text(b" R22"),
+        PartAnswer::Is(n) => number(rt, n),
+        PartAnswer::OutOfRange => print!(rt; " R22"),
     }
 }
 
-fn parts(c: ColorCoordinate) {
-    part(c.as_u40());
-    part(c.worker());
-    part(c.index());
+fn parts(rt: &impl Print, c: ColorCoordinate) -> io::Result<()> {
+    part(rt, c.as_u40())?;
+    part(rt, c.worker())?;
+    part(rt, c.index())?;
     if c.is_in_process() {
-        text(b" in process");
+        print!(rt; " in process")?;
     }
+    Ok(())
 }
 
-fn coordinate(answer: CoordinateAnswer) {
+fn coordinate(rt: &impl Print, answer: CoordinateAnswer) -> io::Result<()> {
     match answer {
-        CoordinateAnswer::Made(c) => parts(c),
-        CoordinateAnswer::OutOfRange => text(b" R22"),
+        CoordinateAnswer::Made(c) => parts(rt, c)?,
+        CoordinateAnswer::OutOfRange => print!(rt; " R22")?,
     }
-    text(b"\n");
+    println!(rt;)
 }
 
-fn discovered(worker: u64, index: u64) {
-    text(b"discovered");
-    number(worker);
-    number(index);
-    text(b":");
-    coordinate(ColorCoordinate::discovered(worker, index));
+fn discovered(rt: &impl Print, worker: u64, index: u64) -> io::Result<()> {
+    print!(rt; "discovered {worker} {index}:")?;
+    coordinate(rt, ColorCoordinate::discovered(worker, index))
 }
 
-fn from_u40(value: u64) {
-    text(b"from");
-    number(value);
-    text(b":");
-    coordinate(ColorCoordinate::from_u40(value));
+fn from_u40(rt: &impl Print, value: u64) -> io::Result<()> {
+    print!(rt; "from {value}:")?;
+    coordinate(rt, ColorCoordinate::from_u40(value))
 }
 
 // A coordinate of any word.
-fn held(value: u64) {
-    text(b"held");
-    number(value);
-    text(b":");
-    parts(ColorCoordinate(value));
-    text(b"\n");
+fn held(rt: &impl Print, value: u64) -> io::Result<()> {
+    print!(rt; "held {value}:")?;
+    parts(rt, ColorCoordinate(value))?;
+    println!(rt;)
 }
 
-fn run(offset: u32, value: u64) {
-    text(b"run");
-    number(offset as u64);
-    number(value);
-    text(b":");
+fn run(rt: &impl Print, offset: u32, value: u64) -> io::Result<()> {
+    print!(rt; "run {offset} {value}:")?;
     match UnitigColor::new(VertexOffset(offset), ColorCoordinate(value)) {
         RunAnswer::Packed(r) => {
             let at = r.offset();
             let c = r.coordinate();
-            number(r.raw());
-            number(at.0 as u64);
-            number(c.0);
+            println!(rt; " {} {} {}", r.raw(), at.0, c.0)
         }
-        RunAnswer::OutOfRange => text(b" R22"),
+        RunAnswer::OutOfRange => println!(rt; " R22"),
     }
-    text(b"\n");
 }
 
-fn color(runs: &[u64], kmers: usize, vertex: u32) {
+fn color(rt: &impl Print, runs: &[u64], kmers: usize, vertex: u32) -> io::Result<()> {
     match colours::color_at(runs, kmers, VertexOffset(vertex)) {
-        ColorAnswer::Color(c) => number(c.0),
-        ColorAnswer::BrokenRuns => text(b" R23"),
-        ColorAnswer::PastLabel => text(b" R24"),
+        ColorAnswer::Color(c) => number(rt, c.0),
+        ColorAnswer::BrokenRuns => print!(rt; " R23"),
+        ColorAnswer::PastLabel => print!(rt; " R24"),
     }
 }
 
-fn show(cells: &[u64]) {
-    let mut i = 0;
-    while i < cells.len() {
-        number(cells[i]);
-        i += 1;
+fn show(rt: &impl Print, cells: &[u64]) -> io::Result<()> {
+    for cell in cells {
+        number(rt, *cell)?;
     }
-    text(b"\n");
+    println!(rt;)
 }
 
 // The colours of all vertices in nine cells, and every cell.
-fn colors(runs: &[u64], kmers: usize) {
+fn colors(rt: &impl Print, runs: &[u64], kmers: usize) -> io::Result<()> {
     let mut cells = [FREE; 9];
     match colours::write_colors(runs, kmers, &mut cells) {
-        ColorsAnswer::Written(n) => number(n as u64),
-        ColorsAnswer::BrokenRuns => text(b" R23"),
-        ColorsAnswer::NoRoom => text(b" R9"),
+        ColorsAnswer::Written(n) => print!(rt; " {n}")?,
+        ColorsAnswer::BrokenRuns => print!(rt; " R23")?,
+        ColorsAnswer::NoRoom => print!(rt; " R9")?,
     }
-    show(&cells);
+    show(rt, &cells)
 }
 
-fn ten_colors(runs: &[u64], kmers: usize) {
-    let mut vertex = 0;
-    while vertex < 10 {
-        color(runs, kmers, vertex);
-        vertex += 1;
+fn ten_colors(rt: &impl Print, runs: &[u64], kmers: usize) -> io::Result<()> {
+    for vertex in 0..10 {
+        color(rt, runs, kmers, vertex)?;
     }
+    Ok(())
 }
 
-// Whether the list is sound, the colours at the vertices 0 to 9, at those around 2^24 and at 2^32 - 1, and those of all
-// vertices.
-fn list(runs: &[u64], kmers: usize) {
-    text(b"list");
-    number(runs.len() as u64);
-    number(kmers as u64);
+// Whether the list is sound, the colours at the vertices 0 to 9, at those around 2^24 and at 2^32 - 1, and those of
+// all vertices.
+fn list(rt: &impl Print, runs: &[u64], kmers: usize) -> io::Result<()> {
+    print!(rt; "list {} {kmers}", runs.len())?;
     match colours::check_runs(runs, kmers) {
-        RunsAnswer::Sound => text(b" sound:"),
-        RunsAnswer::Broken => text(b" R23:"),
+        RunsAnswer::Sound => print!(rt; " sound:")?,
+        RunsAnswer::Broken => print!(rt; " R23:")?,
     }
-    ten_colors(runs, kmers);
-    color(runs, kmers, 0xfffffe);
-    color(runs, kmers, 0xffffff);
-    color(runs, kmers, 0x1000000);
-    color(runs, kmers, 0xffffffff);
-    text(b";");
-    colors(runs, kmers);
+    ten_colors(rt, runs, kmers)?;
+    color(rt, runs, kmers, 0xfffffe)?;
+    color(rt, runs, kmers, 0xffffff)?;
+    color(rt, runs, kmers, 0x1000000)?;
+    color(rt, runs, kmers, 0xffffffff)?;
+    print!(rt; ";")?;
+    colors(rt, runs, kmers)
 }
 
-fn coordinates() {
-    discovered(0, 0);
-    discovered(7, 3);
-    discovered(255, 0);
-    discovered(0, 0xffffffff);
-    discovered(255, 0xffffffff);
-    discovered(256, 0);
-    discovered(0, 0x100000000);
-    discovered(0xffffffffffffffff, 0xffffffffffffffff);
-    from_u40(0);
-    from_u40(775);
-    from_u40(0xffffffffff);
-    from_u40(0x10000000000);
-    from_u40(0x8000000000000000);
-    held(0xffffffffff);
-    held(0x10000000000);
-    held(0x8000000000000000);
-    held(0x8000000000000307);
-    held(0xffffffffffffffff);
+fn coordinates(rt: &impl Print) -> io::Result<()> {
+    discovered(rt, 0, 0)?;
+    discovered(rt, 7, 3)?;
+    discovered(rt, 255, 0)?;
+    discovered(rt, 0, 0xffffffff)?;
+    discovered(rt, 255, 0xffffffff)?;
+    discovered(rt, 256, 0)?;
+    discovered(rt, 0, 0x100000000)?;
+    discovered(rt, 0xffffffffffffffff, 0xffffffffffffffff)?;
+    from_u40(rt, 0)?;
+    from_u40(rt, 775)?;
+    from_u40(rt, 0xffffffffff)?;
+    from_u40(rt, 0x10000000000)?;
+    from_u40(rt, 0x8000000000000000)?;
+    held(rt, 0xffffffffff)?;
+    held(rt, 0x10000000000)?;
+    held(rt, 0x8000000000000000)?;
+    held(rt, 0x8000000000000307)?;
+    held(rt, 0xffffffffffffffff)
 }
 
-fn packed() {
-    run(0, 0);
-    run(5, 775);
-    run(0xffffff, 0xffffffffff);
-    run(0x1000000, 0);
-    run(0xffffffff, 0);
-    run(0, 0x10000000000);
-    run(0, 0x8000000000000001);
-    run(5, 0x8000000000000307);
+fn packed(rt: &impl Print) -> io::Result<()> {
+    run(rt, 0, 0)?;
+    run(rt, 5, 775)?;
+    run(rt, 0xffffff, 0xffffffffff)?;
+    run(rt, 0x1000000, 0)?;
+    run(rt, 0xffffffff, 0)?;
+    run(rt, 0, 0x10000000000)?;
+    run(rt, 0, 0x8000000000000001)?;
+    run(rt, 5, 0x8000000000000307)
 }
 
-fn main() {
-    coordinates();
-    packed();
-    list(&[], 8);
-    list(&[0x4000000], 8);
-    list(&[0x4000000], 1);
-    list(&[0x4000000], 0);
-    list(&[0x4000001], 8);
-    list(&[0x4000000, 0x9000003, 0x4000007], 10);
-    list(&[0x4000000, 0x9000003, 0x4000007], 8);
-    list(&[0x4000000, 0x9000003, 0x4000007], 7);
-    list(&[0x4000000, 0x9000003, 0x4000003], 8);
-    list(&[0x4000000, 0x9000003, 0x4000002], 8);
+fn main(rt: HostRuntime) -> io::Result<()> {
+    coordinates(&rt)?;
+    packed(&rt)?;
+    list(&rt, &[], 8)?;
+    list(&rt, &[0x4000000], 8)?;
+    list(&rt, &[0x4000000], 1)?;
+    list(&rt, &[0x4000000], 0)?;
+    list(&rt, &[0x4000001], 8)?;
+    list(&rt, &[0x4000000, 0x9000003, 0x4000007], 10)?;
+    list(&rt, &[0x4000000, 0x9000003, 0x4000007], 8)?;
+    list(&rt, &[0x4000000, 0x9000003, 0x4000007], 7)?;
+    list(&rt, &[0x4000000, 0x9000003, 0x4000003], 8)?;
+    list(&rt, &[0x4000000, 0x9000003, 0x4000002], 8)?;
     list(
+        &rt,
         &[
             0x1000000, 0x2000001, 0x3000002, 0x4000003, 0x5000004, 0x6000005, 0x7000006, 0x8000007,
         ],
         9,
-    );
-    list(&[0xffffffffff000000, 0xffffff], 0xffffff);
-    list(&[0xffffffffff000000, 0xffffff], 0x1000000);
-    list(&[0xffffffffff000000, 0xffffff], 0xffffffff);
-    list(&[0xffffffffff000000, 0xffffff], 0x100000000);
+    )?;
+    list(&rt, &[0xffffffffff000000, 0xffffff], 0xffffff)?;
+    list(&rt, &[0xffffffffff000000, 0xffffff], 0x1000000)?;
+    list(&rt, &[0xffffffffff000000, 0xffffff], 0xffffffff)?;
+    list(&rt, &[0xffffffffff000000, 0xffffff], 0x100000000)
 }

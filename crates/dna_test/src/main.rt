@@ -1,53 +1,47 @@
-// Prints what the letters answer: for every byte, for every base, and for many labels. The file `stdout` beside this holds
-// what the Rust original answers to the same questions (oracle/).
+// Prints what the letters answer: for every byte, for every base, and for many labels. The file `stdout` beside this
+// holds what the Rust original answers to the same questions (oracle/).
 #![tactic(auto)]
 
 use dna::{AsciiBits, Base, Written};
-use libc::STDOUT_FILENO;
+use std::io;
 
-fn text(s: &[u8]) {
-    io::write_all(STDOUT_FILENO, s);
+fn number(rt: &impl Print, n: u64) -> io::Result<()> {
+    print!(rt; " {n}")
 }
 
-fn number(n: u64) {
-    text(b" ");
-    io::print_decimal(STDOUT_FILENO, n);
-}
-
-fn test(t: bool) {
+fn test(rt: &impl Print, t: bool) -> io::Result<()> {
     if t {
-        text(b" 1");
+        print!(rt; " 1")
     } else {
-        text(b" 0");
+        print!(rt; " 0")
     }
 }
 
-fn bits(b: AsciiBits) {
+fn bits(rt: &impl Print, b: AsciiBits) -> io::Result<()> {
     match b {
-        AsciiBits::Bits(x) => number(x as u64),
-        AsciiBits::NoBase => text(b" -"),
+        AsciiBits::Bits(x) => number(rt, x as u64),
+        AsciiBits::NoBase => print!(rt; " -"),
     }
 }
 
-fn byte_line(b: u8) {
-    text(b"byte");
-    number(b as u64);
-    number(Base::from_ascii(b).bits() as u64);
-    test(dna::is_dna_ascii(b));
-    number(dna::complement_ascii(b) as u64);
-    bits(dna::ascii_base_bits(b));
-    number(dna::valid_ascii_base_bits(b) as u64);
-    bits(dna::ascii_complement_bits(b));
-    text(b"\n");
+fn byte_line(rt: &impl Print, b: u8) -> io::Result<()> {
+    print!(rt; "byte {b}")?;
+    number(rt, Base::from_ascii(b).bits() as u64)?;
+    test(rt, dna::is_dna_ascii(b))?;
+    number(rt, dna::complement_ascii(b) as u64)?;
+    bits(rt, dna::ascii_base_bits(b))?;
+    number(rt, dna::valid_ascii_base_bits(b) as u64)?;
+    bits(rt, dna::ascii_complement_bits(b))?;
+    println!(rt;)
 }
 
-fn base_line(b: Base) {
-    text(b"base");
-    number(b.bits() as u64);
-    number(b.to_ascii() as u64);
-    number(b.complement().bits() as u64);
-    test(b.is_dna());
-    text(b"\n");
+fn base_line(rt: &impl Print, b: Base) -> io::Result<()> {
+    print!(rt; "base")?;
+    number(rt, b.bits() as u64)?;
+    number(rt, b.to_ascii() as u64)?;
+    number(rt, b.complement().bits() as u64)?;
+    test(rt, b.is_dna())?;
+    println!(rt;)
 }
 
 // The first n bytes of a text that has them.
@@ -55,77 +49,73 @@ fn first(s: &[u8], n: usize) -> &[u8] {
     if n <= s.len() { &s[..n] } else { s }
 }
 
-fn written(w: Written, out: &[u8]) {
-    text(b" ");
+fn written(rt: &impl Print, w: Written, out: &[u8]) -> io::Result<()> {
+    print!(rt; " ")?;
     match w {
-        Written::Done(n) => text(first(out, n)),
-        Written::NoRoom => text(b"no room"),
+        Written::Done(n) => rt.write_all(first(out, n)),
+        Written::NoRoom => print!(rt; "no room"),
     }
 }
 
-fn label_line(label: &[u8]) {
+fn label_line(rt: &impl Print, label: &[u8]) -> io::Result<()> {
     let mut out = [0u8; 40];
-    text(b"label ");
-    text(label);
+    print!(rt; "label ")?;
+    rt.write_all(label)?;
     let w = dna::reverse_complement_label(label, &mut out);
-    written(w, &out);
-    number(dna::least_rotation_start(label) as u64);
+    written(rt, w, &out)?;
+    number(rt, dna::least_rotation_start(label) as u64)?;
     let w = dna::minimal_rotation(label, &mut out);
-    written(w, &out);
-    text(b"\n");
+    written(rt, w, &out)?;
+    println!(rt;)
 }
 
 // The word of number w among those of five letters A, C, T; its first len letters are a label.
-fn word(w: usize, len: usize) {
+fn word(rt: &impl Print, w: usize, len: usize) -> io::Result<()> {
     let letters = b"ACT";
     let mut label = [0u8; 5];
     let mut rest = w;
-    let mut i = 0;
-    while i < 5 {
-        label[i] = letters[rest % 3];
+    for place in &mut label {
+        *place = letters[rest % 3];
         rest = rest / 3;
-        i += 1;
     }
-    label_line(first(&label, len));
+    label_line(rt, first(&label, len))
 }
 
 // The first words, as labels of this length.
-fn words(len: usize, count: usize) {
-    let mut w = 0;
-    while w < count {
-        word(w, len);
-        w += 1;
+fn words(rt: &impl Print, len: usize, count: usize) -> io::Result<()> {
+    for w in 0..count {
+        word(rt, w, len)?;
     }
+    Ok(())
 }
 
-fn bytes() {
-    let mut b: u32 = 0;
-    while b < 256 {
-        byte_line(b as u8);
-        b += 1;
+fn bytes(rt: &impl Print) -> io::Result<()> {
+    for b in 0..=255 {
+        byte_line(rt, b)?;
     }
+    Ok(())
 }
 
-fn bases() {
-    base_line(Base::A);
-    base_line(Base::C);
-    base_line(Base::G);
-    base_line(Base::T);
-    base_line(Base::N);
-    base_line(Base::E);
+fn bases(rt: &impl Print) -> io::Result<()> {
+    base_line(rt, Base::A)?;
+    base_line(rt, Base::C)?;
+    base_line(rt, Base::G)?;
+    base_line(rt, Base::T)?;
+    base_line(rt, Base::N)?;
+    base_line(rt, Base::E)
 }
 
-fn main() {
-    bytes();
-    bases();
-    words(0, 1);
-    words(1, 3);
-    words(2, 9);
-    words(3, 27);
-    words(4, 81);
-    words(5, 243);
-    label_line(b"acgtuACGTUNRYn-");
-    label_line(b"GATTACAGATTACA");
-    label_line(b"TTTTTTTTTTTTTTTTTTTTTTTTTTTTTTTTTTTTTTTA");
-    label_line(b"CAACAACAACAACAACAACAACAACAACAACAACAACAAC");
+fn main(rt: HostRuntime) -> io::Result<()> {
+    bytes(&rt)?;
+    bases(&rt)?;
+    words(&rt, 0, 1)?;
+    words(&rt, 1, 3)?;
+    words(&rt, 2, 9)?;
+    words(&rt, 3, 27)?;
+    words(&rt, 4, 81)?;
+    words(&rt, 5, 243)?;
+    label_line(&rt, b"acgtuACGTUNRYn-")?;
+    label_line(&rt, b"GATTACAGATTACA")?;
+    label_line(&rt, b"TTTTTTTTTTTTTTTTTTTTTTTTTTTTTTTTTTTTTTTA")?;
+    label_line(&rt, b"CAACAACAACAACAACAACAACAACAACAACAACAACAAC")
 }

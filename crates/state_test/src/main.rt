@@ -1,36 +1,30 @@
-// Prints what the counters answer: each raised 0, 1, 15 and 16 times beside others that are empty, at 2 and full, and every edge
-// and pair of neighbours added to one word. Then what presence bits answer: in each of their 256 words and in some with stray bits,
-// and every edge and pair of neighbours added to some words. The file `stdout` beside this holds what the Rust original answers to
-// the same questions (oracle/).
+// Prints what the counters answer: each raised 0, 1, 15 and 16 times beside others that are empty, at 2 and full, and
+// every edge and pair of neighbours added to one word. Then what presence bits answer: in each of their 256 words and
+// in some with stray bits, and every edge and pair of neighbours added to some words. The file `stdout` beside this
+// holds what the Rust original answers to the same questions (oracle/).
 #![tactic(auto)]
 
 use dna::Base;
-use libc::STDOUT_FILENO;
 use state::{
     Counting, EdgeAnswer, EdgeFrequency, EdgePresence, Frequency, Marking, NumberAnswer, Side,
     TestAnswer,
 };
+use std::io;
 
-fn text(s: &[u8]) {
-    io::write_all(STDOUT_FILENO, s);
+fn number(rt: &impl Print, n: u32) -> io::Result<()> {
+    print!(rt; " {n}")
 }
 
-fn number(n: u32) {
-    text(b" ");
-    io::print_decimal(STDOUT_FILENO, n as u64);
-}
-
-fn test(t: bool) {
+fn test(rt: &impl Print, t: bool) -> io::Result<()> {
     if t {
-        text(b" 1");
+        print!(rt; " 1")
     } else {
-        text(b" 0");
+        print!(rt; " 0")
     }
 }
 
-fn word(edges: EdgeFrequency) {
-    text(b" ");
-    io::print_hex(STDOUT_FILENO, edges.packed as u64, 8);
+fn word(rt: &impl Print, bits: u32) -> io::Result<()> {
+    print!(rt; " {bits:08x}")
 }
 
 fn base(code: u32) -> Base {
@@ -51,56 +45,55 @@ fn side(number: u32) -> Side {
     }
 }
 
-fn ask_side(edges: EdgeFrequency, side: Side, cutoff: u32) {
-    number(edges.edge_count(side, cutoff));
-    number(edges.edge_at(side, cutoff).bits() as u32);
-    test(edges.is_branching_side(side, cutoff));
-    test(edges.is_empty_side(side, cutoff));
+fn ask_side(rt: &impl Print, edges: EdgeFrequency, side: Side, cutoff: u32) -> io::Result<()> {
+    number(rt, edges.edge_count(side, cutoff))?;
+    number(rt, edges.edge_at(side, cutoff).bits() as u32)?;
+    test(rt, edges.is_branching_side(side, cutoff))?;
+    test(rt, edges.is_empty_side(side, cutoff))
 }
 
-fn ask(edges: EdgeFrequency, cutoff: u32) {
-    text(b"cutoff");
-    number(cutoff);
-    ask_side(edges, Side::Front, cutoff);
-    ask_side(edges, Side::Front.inverse(), cutoff);
-    test(edges.is_isolated(cutoff));
-    text(b"\n");
+fn ask(rt: &impl Print, edges: EdgeFrequency, cutoff: u32) -> io::Result<()> {
+    print!(rt; "cutoff {cutoff}")?;
+    ask_side(rt, edges, Side::Front, cutoff)?;
+    ask_side(rt, edges, Side::Front.inverse(), cutoff)?;
+    test(rt, edges.is_isolated(cutoff))?;
+    println!(rt;)
 }
 
-fn frequency(f: Frequency) {
+fn frequency(rt: &impl Print, f: Frequency) -> io::Result<()> {
     match f {
-        Frequency::Count(n) => number(n),
-        Frequency::NoBase => text(b" R10"),
+        Frequency::Count(n) => number(rt, n),
+        Frequency::NoBase => print!(rt; " R10"),
     }
 }
 
-fn counting(c: Counting) {
+fn counting(rt: &impl Print, c: Counting) -> io::Result<()> {
     match c {
-        Counting::Done(edges) => word(edges),
-        Counting::NoBase => text(b" R10"),
+        Counting::Done(edges) => word(rt, edges.packed)?,
+        Counting::NoBase => print!(rt; " R10")?,
     }
-    text(b"\n");
+    println!(rt;)
 }
 
-fn frequencies(edges: EdgeFrequency, side: Side) {
-    frequency(edges.frequency(side, 0));
-    frequency(edges.frequency(side, 1));
-    frequency(edges.frequency(side, 2));
-    frequency(edges.frequency(side, 3));
+fn frequencies(rt: &impl Print, edges: EdgeFrequency, side: Side) -> io::Result<()> {
+    frequency(rt, edges.frequency(side, 0))?;
+    frequency(rt, edges.frequency(side, 1))?;
+    frequency(rt, edges.frequency(side, 2))?;
+    frequency(rt, edges.frequency(side, 3))
 }
 
-fn show(edges: EdgeFrequency) {
-    text(b"word");
-    word(edges);
-    frequencies(edges, Side::Front);
-    frequencies(edges, Side::Back);
-    text(b"\n");
-    ask(edges, 0);
-    ask(edges, 1);
-    ask(edges, 2);
-    ask(edges, 15);
-    ask(edges, 16);
-    ask(edges, 0xffffffff);
+fn show(rt: &impl Print, edges: EdgeFrequency) -> io::Result<()> {
+    print!(rt; "word")?;
+    word(rt, edges.packed)?;
+    frequencies(rt, edges, Side::Front)?;
+    frequencies(rt, edges, Side::Back)?;
+    println!(rt;)?;
+    ask(rt, edges, 0)?;
+    ask(rt, edges, 1)?;
+    ask(rt, edges, 2)?;
+    ask(rt, edges, 15)?;
+    ask(rt, edges, 16)?;
+    ask(rt, edges, 0xffffffff)
 }
 
 // A slot's base is one of A, C, G and T, so that the edge is never refused.
@@ -114,10 +107,8 @@ fn raised_once(packed: u32, slot: u32) -> u32 {
 
 fn raised_times(packed: u32, slot: u32, times: u32) -> u32 {
     let mut word = packed;
-    let mut i = 0;
-    while i < times {
+    for _ in 0..times {
         word = raised_once(word, slot);
-        i += 1;
     }
     word
 }
@@ -128,222 +119,196 @@ fn times(counter: u32, slot: u32, n: u32, others: u32) -> u32 {
 }
 
 fn raised(slot: u32, n: u32, others: u32) -> EdgeFrequency {
-    let word = raised_times(0, 0, times(0, slot, n, others));
-    let word = raised_times(word, 1, times(1, slot, n, others));
-    let word = raised_times(word, 2, times(2, slot, n, others));
-    let word = raised_times(word, 3, times(3, slot, n, others));
-    let word = raised_times(word, 4, times(4, slot, n, others));
-    let word = raised_times(word, 5, times(5, slot, n, others));
-    let word = raised_times(word, 6, times(6, slot, n, others));
-    let word = raised_times(word, 7, times(7, slot, n, others));
+    let mut word = 0;
+    for counter in 0..8 {
+        word = raised_times(word, counter, times(counter, slot, n, others));
+    }
     EdgeFrequency { packed: word }
 }
 
-fn each_raised(n: u32, others: u32) {
-    show(raised(0, n, others));
-    show(raised(1, n, others));
-    show(raised(2, n, others));
-    show(raised(3, n, others));
-    show(raised(4, n, others));
-    show(raised(5, n, others));
-    show(raised(6, n, others));
-    show(raised(7, n, others));
+fn each_raised(rt: &impl Print, n: u32, others: u32) -> io::Result<()> {
+    for slot in 0..8 {
+        show(rt, raised(slot, n, others))?;
+    }
+    Ok(())
 }
 
-fn limits(others: u32) {
-    each_raised(0, others);
-    each_raised(1, others);
-    each_raised(15, others);
-    each_raised(16, others);
+fn limits(rt: &impl Print, others: u32) -> io::Result<()> {
+    each_raised(rt, 0, others)?;
+    each_raised(rt, 1, others)?;
+    each_raised(rt, 15, others)?;
+    each_raised(rt, 16, others)
 }
 
-fn add(edges: EdgeFrequency, to: u32, code: u32) {
-    text(b"add");
-    number(to);
-    number(code);
-    counting(edges.add_edge(side(to), base(code)));
+fn add(rt: &impl Print, edges: EdgeFrequency, to: u32, code: u32) -> io::Result<()> {
+    print!(rt; "add {to} {code}")?;
+    counting(rt, edges.add_edge(side(to), base(code)))
 }
 
-fn adds(edges: EdgeFrequency, to: u32) {
-    add(edges, to, 0);
-    add(edges, to, 1);
-    add(edges, to, 2);
-    add(edges, to, 3);
-    add(edges, to, 4);
-    add(edges, to, 5);
+fn adds(rt: &impl Print, edges: EdgeFrequency, to: u32) -> io::Result<()> {
+    for code in 0..6 {
+        add(rt, edges, to, code)?;
+    }
+    Ok(())
 }
 
-fn update(edges: EdgeFrequency, front: u32, back: u32) {
-    text(b"update");
-    number(front);
-    number(back);
-    counting(edges.update_edges(base(front), base(back)));
+fn update(rt: &impl Print, edges: EdgeFrequency, front: u32, back: u32) -> io::Result<()> {
+    print!(rt; "update {front} {back}")?;
+    counting(rt, edges.update_edges(base(front), base(back)))
 }
 
-fn updates(edges: EdgeFrequency, front: u32) {
-    update(edges, front, 0);
-    update(edges, front, 1);
-    update(edges, front, 2);
-    update(edges, front, 3);
-    update(edges, front, 4);
-    update(edges, front, 5);
+fn updates(rt: &impl Print, edges: EdgeFrequency, front: u32) -> io::Result<()> {
+    for back in 0..6 {
+        update(rt, edges, front, back)?;
+    }
+    Ok(())
 }
 
-fn flags_word(present: EdgePresence) {
-    text(b" ");
-    io::print_hex(STDOUT_FILENO, present.flags as u64, 8);
-}
-
-fn number_answer(answer: NumberAnswer) {
+fn number_answer(rt: &impl Print, answer: NumberAnswer) -> io::Result<()> {
     match answer {
-        NumberAnswer::Edges(n) => number(n),
-        NumberAnswer::WrongCutoff => text(b" R15"),
+        NumberAnswer::Edges(n) => number(rt, n),
+        NumberAnswer::WrongCutoff => print!(rt; " R15"),
     }
 }
 
-fn edge_answer(answer: EdgeAnswer) {
+fn edge_answer(rt: &impl Print, answer: EdgeAnswer) -> io::Result<()> {
     match answer {
-        EdgeAnswer::Edge(b) => number(b.bits() as u32),
-        EdgeAnswer::WrongCutoff => text(b" R15"),
+        EdgeAnswer::Edge(b) => number(rt, b.bits() as u32),
+        EdgeAnswer::WrongCutoff => print!(rt; " R15"),
     }
 }
 
-fn test_answer(answer: TestAnswer) {
+fn test_answer(rt: &impl Print, answer: TestAnswer) -> io::Result<()> {
     match answer {
-        TestAnswer::Is(t) => test(t),
-        TestAnswer::WrongCutoff => text(b" R15"),
+        TestAnswer::Is(t) => test(rt, t),
+        TestAnswer::WrongCutoff => print!(rt; " R15"),
     }
 }
 
-fn marked(answer: Marking) {
+fn marked(rt: &impl Print, answer: Marking) -> io::Result<()> {
     match answer {
-        Marking::Done(present) => flags_word(present),
-        Marking::NoBase => text(b" R10"),
+        Marking::Done(present) => word(rt, present.flags)?,
+        Marking::NoBase => print!(rt; " R10")?,
     }
-    text(b"\n");
+    println!(rt;)
 }
 
-fn ask_present_side(present: EdgePresence, side: Side, cutoff: u32) {
-    number_answer(present.edge_count(side, cutoff));
-    edge_answer(present.edge_at(side, cutoff));
-    test_answer(present.is_branching_side(side, cutoff));
-    test_answer(present.is_empty_side(side, cutoff));
+fn ask_present_side(
+    rt: &impl Print,
+    present: EdgePresence,
+    side: Side,
+    cutoff: u32,
+) -> io::Result<()> {
+    number_answer(rt, present.edge_count(side, cutoff))?;
+    edge_answer(rt, present.edge_at(side, cutoff))?;
+    test_answer(rt, present.is_branching_side(side, cutoff))?;
+    test_answer(rt, present.is_empty_side(side, cutoff))
 }
 
-fn ask_present(present: EdgePresence, cutoff: u32) {
-    text(b"cutoff");
-    number(cutoff);
-    ask_present_side(present, Side::Front, cutoff);
-    ask_present_side(present, Side::Back, cutoff);
-    test_answer(present.is_isolated(cutoff));
-    text(b"\n");
+fn ask_present(rt: &impl Print, present: EdgePresence, cutoff: u32) -> io::Result<()> {
+    print!(rt; "cutoff {cutoff}")?;
+    ask_present_side(rt, present, Side::Front, cutoff)?;
+    ask_present_side(rt, present, Side::Back, cutoff)?;
+    test_answer(rt, present.is_isolated(cutoff))?;
+    println!(rt;)
 }
 
-fn show_present(flags: u32) {
+fn show_present(rt: &impl Print, flags: u32) -> io::Result<()> {
     let present = EdgePresence { flags };
-    text(b"presence");
-    flags_word(present);
-    text(b"\n");
-    ask_present(present, 0);
-    ask_present(present, 1);
-    ask_present(present, 2);
-    ask_present(present, 16);
+    print!(rt; "presence")?;
+    word(rt, present.flags)?;
+    println!(rt;)?;
+    ask_present(rt, present, 0)?;
+    ask_present(rt, present, 1)?;
+    ask_present(rt, present, 2)?;
+    ask_present(rt, present, 16)
 }
 
 // The 256 words without a stray bit.
-fn every_present() {
-    let mut flags: u32 = 0;
-    while flags < 0x800 {
-        show_present(flags);
-        flags += 8;
+fn every_present(rt: &impl Print) -> io::Result<()> {
+    for present in 0..256 {
+        show_present(rt, present << 3)?;
     }
+    Ok(())
 }
 
 // Words with stray bits, which change no answer.
-fn stray_present() {
-    show_present(0x7f9);
-    show_present(0x807);
-    show_present(0x80000000);
-    show_present(0xfffff807);
-    show_present(0xfffffaaf);
-    show_present(0xffffffff);
+fn stray_present(rt: &impl Print) -> io::Result<()> {
+    show_present(rt, 0x7f9)?;
+    show_present(rt, 0x807)?;
+    show_present(rt, 0x80000000)?;
+    show_present(rt, 0xfffff807)?;
+    show_present(rt, 0xfffffaaf)?;
+    show_present(rt, 0xffffffff)
 }
 
-fn mark(present: EdgePresence, to: u32, code: u32) {
-    text(b"add");
-    number(to);
-    number(code);
-    marked(present.add_edge(side(to), base(code)));
+fn mark(rt: &impl Print, present: EdgePresence, to: u32, code: u32) -> io::Result<()> {
+    print!(rt; "add {to} {code}")?;
+    marked(rt, present.add_edge(side(to), base(code)))
 }
 
-fn marks(present: EdgePresence, to: u32) {
-    mark(present, to, 0);
-    mark(present, to, 1);
-    mark(present, to, 2);
-    mark(present, to, 3);
-    mark(present, to, 4);
-    mark(present, to, 5);
+fn marks(rt: &impl Print, present: EdgePresence, to: u32) -> io::Result<()> {
+    for code in 0..6 {
+        mark(rt, present, to, code)?;
+    }
+    Ok(())
 }
 
-fn mark_both(present: EdgePresence, front: u32, back: u32) {
-    text(b"update");
-    number(front);
-    number(back);
-    marked(present.update_edges(base(front), base(back)));
+fn mark_both(rt: &impl Print, present: EdgePresence, front: u32, back: u32) -> io::Result<()> {
+    print!(rt; "update {front} {back}")?;
+    marked(rt, present.update_edges(base(front), base(back)))
 }
 
-fn marks_both(present: EdgePresence, front: u32) {
-    mark_both(present, front, 0);
-    mark_both(present, front, 1);
-    mark_both(present, front, 2);
-    mark_both(present, front, 3);
-    mark_both(present, front, 4);
-    mark_both(present, front, 5);
+fn marks_both(rt: &impl Print, present: EdgePresence, front: u32) -> io::Result<()> {
+    for back in 0..6 {
+        mark_both(rt, present, front, back)?;
+    }
+    Ok(())
 }
 
-fn mark_from(flags: u32) {
+fn mark_from(rt: &impl Print, flags: u32) -> io::Result<()> {
     let present = EdgePresence { flags };
-    text(b"presence");
-    flags_word(present);
-    text(b"\n");
-    marks(present, 0);
-    marks(present, 1);
-    marks_both(present, 0);
-    marks_both(present, 1);
-    marks_both(present, 2);
-    marks_both(present, 3);
-    marks_both(present, 4);
-    marks_both(present, 5);
+    print!(rt; "presence")?;
+    word(rt, present.flags)?;
+    println!(rt;)?;
+    marks(rt, present, 0)?;
+    marks(rt, present, 1)?;
+    marks_both(rt, present, 0)?;
+    marks_both(rt, present, 1)?;
+    marks_both(rt, present, 2)?;
+    marks_both(rt, present, 3)?;
+    marks_both(rt, present, 4)?;
+    marks_both(rt, present, 5)
 }
 
 // A word without a bit, one with some, one with all; then stray bits, which stay.
-fn mark_all() {
-    mark_from(0);
-    mark_from(0x128);
-    mark_from(0x7f8);
-    mark_from(0x807);
-    mark_from(0xfffff807);
-    mark_from(0xffffffff);
+fn mark_all(rt: &impl Print) -> io::Result<()> {
+    mark_from(rt, 0)?;
+    mark_from(rt, 0x128)?;
+    mark_from(rt, 0x7f8)?;
+    mark_from(rt, 0x807)?;
+    mark_from(rt, 0xfffff807)?;
+    mark_from(rt, 0xffffffff)
 }
 
-fn counters() {
-    limits(0);
-    limits(2);
-    limits(15);
+fn counters(rt: &impl Print) -> io::Result<()> {
+    limits(rt, 0)?;
+    limits(rt, 2)?;
+    limits(rt, 15)?;
     let start = raised(1, 14, 3);
-    adds(start, 0);
-    adds(start, 1);
-    updates(start, 0);
-    updates(start, 1);
-    updates(start, 2);
-    updates(start, 3);
-    updates(start, 4);
-    updates(start, 5);
+    adds(rt, start, 0)?;
+    adds(rt, start, 1)?;
+    updates(rt, start, 0)?;
+    updates(rt, start, 1)?;
+    updates(rt, start, 2)?;
+    updates(rt, start, 3)?;
+    updates(rt, start, 4)?;
+    updates(rt, start, 5)
 }
 
-fn main() {
-    counters();
-    every_present();
-    stray_present();
-    mark_all();
+fn main(rt: HostRuntime) -> io::Result<()> {
+    counters(&rt)?;
+    every_present(&rt)?;
+    stray_present(&rt)?;
+    mark_all(&rt)
 }
