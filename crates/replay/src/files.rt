@@ -1,19 +1,12 @@
 // A label file, what the program prints for it, and what it leaves in its buffers.
-use super::{found, read};
+use super::found;
+use super::read::Data;
 use label_file::ListAnswer;
-
-// The bytes to be printed, or a number above every length.
-fn size(answer: ListAnswer) -> usize {
-    match answer {
-        ListAnswer::Printed(n) => n,
-        ListAnswer::NoRoom => 65536,
-    }
-}
 
 // What a run left: the bytes to be printed, the table with its marks, the labels and their index.
 fn left(
-    fd: i32,
-    printed: usize,
+    data: &mut Data<'_>,
+    answer: ListAnswer,
     keys: &[u64],
     counts: &[u32],
     labels: &[u8],
@@ -21,22 +14,25 @@ fn left(
     lengths: &[u32],
     marks: &[u8],
     text: &[u8],
-) -> u8 {
-    let bytes = read::length(fd);
-    let told = found::told(bytes == printed) | found::bytes(fd, bytes, text);
-    let n = read::length(fd);
-    let table = found::table(fd, n, keys, counts) | found::bytes(fd, n, marks);
-    let bases = read::length(fd);
-    let spelled = found::bytes(fd, bases, labels);
-    let count = read::length(fd);
-    told | table
-        | spelled
-        | found::cells(fd, 2, count, starts)
-        | found::cells(fd, 2, count, lengths)
+) -> Option<bool> {
+    let printed = data.length()?;
+    let told = match answer {
+        ListAnswer::Printed(n) => n == printed,
+        ListAnswer::NoRoom => false,
+    };
+    let lines = found::bytes(data, printed, text)?;
+    let n = data.length()?;
+    let table = found::table(data, n, keys, counts)?;
+    let marked = found::bytes(data, n, marks)?;
+    let bases = data.length()?;
+    let spelled = found::bytes(data, bases, labels)?;
+    let count = data.length()?;
+    let indexed = found::index(data, count, starts, lengths)?;
+    Some(told & lines & table & marked & spelled & indexed)
 }
 
 // The run of a file, in buffers filled with zeros.
-fn listed(fd: i32, file: &[u8]) -> u8 {
+fn listed(data: &mut Data<'_>, file: &[u8]) -> Option<bool> {
     let mut keys = [0u64; 2048];
     let mut counts = [0u32; 1024];
     let mut labels = [0u8; 8192];
@@ -44,7 +40,7 @@ fn listed(fd: i32, file: &[u8]) -> u8 {
     let mut lengths = [0u32; 1024];
     let mut marks = [0u8; 1024];
     let mut text = [0u8; 8192];
-    let printed = size(label_file::list_unitigs(
+    let answer = label_file::list_unitigs(
         file,
         &mut keys,
         &mut counts,
@@ -53,28 +49,16 @@ fn listed(fd: i32, file: &[u8]) -> u8 {
         &mut lengths,
         &mut marks,
         &mut text,
-    ));
+    );
     left(
-        fd, printed, &keys, &counts, &labels, &starts, &lengths, &marks, &text,
+        data, answer, &keys, &counts, &labels, &starts, &lengths, &marks, &text,
     )
 }
 
 // A case, of whose file's length the low byte is read.
-pub fn case(fd: i32, low: usize) -> u8 {
-    let mut file = [0u8; 20000];
-    let high = read::number(fd, 1);
-    if 255 < high {
-        return found::CUT;
-    }
-    if 255 < low {
-        return found::CUT;
-    }
-    let n = low + 256 * (high as usize);
-    if 20000 < n {
-        return found::CUT;
-    }
-    if !read::fill(fd, n, &mut file) {
-        return found::CUT;
-    }
-    listed(fd, &file[..n])
+pub fn case(data: &mut Data<'_>, low: u8) -> Option<bool> {
+    let high = data.byte()?;
+    let n = u16::from_le_bytes([low, high]);
+    let file = data.bytes(usize::from(n))?;
+    listed(data, file)
 }

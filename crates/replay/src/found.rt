@@ -1,81 +1,47 @@
-// The pieces of a case that are compared with what the library left. What is found of several pieces is joined by |.
-use super::read;
+// The pieces of a case that are compared with what the library left: whether they are the same. `None` says that the
+// file ends in the piece, or that the piece does not fit its buffer.
+use super::read::Data;
 
-pub const SAME: u8 = 0;
-
-pub const DIFFERS: u8 = 1;
-
-// The file ends in the piece, or the piece does not fit its buffer.
-pub const CUT: u8 = 2;
-
-pub fn told(same: bool) -> u8 {
-    if same { SAME } else { DIFFERS }
+pub fn bytes(data: &mut Data<'_>, n: usize, ours: &[u8]) -> Option<bool> {
+    let theirs = data.bytes(n)?;
+    Some(theirs == ours.get(..n)?)
 }
 
-fn wide(cell: u32) -> u64 {
-    cell as u64
+pub fn words(data: &mut Data<'_>, n: usize, ours: &[u64]) -> Option<bool> {
+    let mut same = true;
+    for word in ours.get(..n)? {
+        same &= data.word()? == *word;
+    }
+    Some(same)
 }
 
-// A number of as many bytes as the width.
-pub fn number(fd: i32, width: usize, ours: u64) -> u8 {
-    let mut theirs = [0u8; 8];
-    if !read::fill(fd, width, &mut theirs) {
-        return CUT;
+fn cells(data: &mut Data<'_>, n: usize, ours: &[u32]) -> Option<bool> {
+    let mut same = true;
+    for cell in ours.get(..n)? {
+        same &= data.cell()? == *cell;
     }
-    told(read::value(&theirs) == ours)
+    Some(same)
 }
 
-pub fn bytes(fd: i32, n: usize, ours: &[u8]) -> u8 {
-    let mut theirs = [0u8; 8192];
-    if 8192 < n {
-        return CUT;
+// Cells recorded in two bytes each.
+fn lengths(data: &mut Data<'_>, n: usize, ours: &[u32]) -> Option<bool> {
+    let mut same = true;
+    for length in ours.get(..n)? {
+        same &= data.length()? == *length as usize;
     }
-    if !read::fill(fd, n, &mut theirs) {
-        return CUT;
-    }
-    if ours.len() < n {
-        return CUT;
-    }
-    let mut i = 0;
-    while i < n {
-        if theirs[i] != ours[i] {
-            return DIFFERS;
-        }
-        i += 1;
-    }
-    SAME
-}
-
-pub fn words(fd: i32, n: usize, ours: &[u64]) -> u8 {
-    if ours.len() < n {
-        return CUT;
-    }
-    let mut found = SAME;
-    let mut i = 0;
-    while i < n {
-        found = found | number(fd, 8, ours[i]);
-        i += 1;
-    }
-    found
-}
-
-pub fn cells(fd: i32, width: usize, n: usize, ours: &[u32]) -> u8 {
-    if ours.len() < n {
-        return CUT;
-    }
-    let mut found = SAME;
-    let mut i = 0;
-    while i < n {
-        found = found | number(fd, width, wide(ours[i]));
-        i += 1;
-    }
-    found
+    Some(same)
 }
 
 // The keys and the counts of a table.
-pub fn table(fd: i32, n: usize, keys: &[u64], counts: &[u32]) -> u8 {
-    if 4096 < n {
-        return CUT;
-    }
-    words(fd, 2 * n, keys) | cells(fd, 4, n, counts)
+pub fn table(data: &mut Data<'_>, n: usize, keys: &[u64], counts: &[u32]) -> Option<bool> {
+    let keys = words(data, n.checked_mul(2)?, keys)?;
+    let counts = cells(data, n, counts)?;
+    Some(keys & counts)
+}
+
+// The first entries of an index.
+pub fn index(data: &mut Data<'_>, n: usize, starts: &[u32], ends: &[u32]) -> Option<bool> {
+    let starts = lengths(data, n, starts)?;
+    let ends = lengths(data, n, ends)?;
+    Some(starts & ends)
 }

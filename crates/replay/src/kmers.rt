@@ -1,23 +1,24 @@
 // A k-mer and what is asked of it.
-use super::{found, read};
+use super::found;
+use super::read::Data;
 use dna::Base;
 use kmer::{Answered, BaseAnswer, Kmer, KmerAnswer, LettersAnswer, TestAnswer};
 
 // What is recorded of no answer.
-const REFUSED: u64 = 255;
+const REFUSED: u8 = 255;
 
-fn code_of(answer: BaseAnswer) -> u64 {
+fn code_of(answer: BaseAnswer) -> u8 {
     match answer {
-        BaseAnswer::Found(base) => base.bits() as u64,
+        BaseAnswer::Found(base) => base.bits(),
         BaseAnswer::Refused(_) => REFUSED,
     }
 }
 
-fn bit(test: bool) -> u64 {
+fn bit(test: bool) -> u8 {
     if test { 1 } else { 0 }
 }
 
-fn base_of(code: u64) -> Base {
+fn base_of(code: u8) -> Base {
     match code {
         0 => Base::A,
         1 => Base::C,
@@ -28,7 +29,7 @@ fn base_of(code: u64) -> Base {
 }
 
 // The k-mers that are asked for: this one, turned, canonical, and rolled by a base each way.
-fn made(which: usize, k: usize, x: Answered, code: u64) -> Answered {
+fn made(which: usize, k: usize, x: Answered, code: u8) -> Answered {
     match which {
         0 => x,
         1 => x.kmer.reverse_complement(k),
@@ -39,7 +40,7 @@ fn made(which: usize, k: usize, x: Answered, code: u64) -> Answered {
 }
 
 // The numbers that are asked for: three of its bases, whether it is canonical, and whether it is less than another.
-fn asked(which: usize, k: usize, x: Kmer, other: Kmer, place: usize) -> u64 {
+fn asked(which: usize, k: usize, x: Kmer, other: Kmer, place: usize) -> u8 {
     match which {
         0 => code_of(x.get(k, place)),
         1 => code_of(x.front(k)),
@@ -52,52 +53,49 @@ fn asked(which: usize, k: usize, x: Kmer, other: Kmer, place: usize) -> u64 {
     }
 }
 
-fn kmer(fd: i32, answered: Answered) -> u8 {
-    let words = answered.kmer.words();
-    let found = found::words(fd, 2, &words);
-    let answer = answered.answer;
-    match answer {
-        KmerAnswer::Done => found,
-        KmerAnswer::Refused(_) => found | found::DIFFERS,
+fn kmer(data: &mut Data<'_>, answered: Answered) -> Option<bool> {
+    let same = found::words(data, 2, &answered.kmer.words())?;
+    match answered.answer {
+        KmerAnswer::Done => Some(same),
+        KmerAnswer::Refused(_) => Some(false),
     }
 }
 
-fn letters(fd: i32, k: usize, x: Kmer) -> u8 {
+fn letters(data: &mut Data<'_>, k: usize, x: Kmer) -> Option<bool> {
     let mut room = [0u8; 63];
-    let n = match x.append_ascii(k, &mut room) {
-        LettersAnswer::Written(n) => n,
-        LettersAnswer::Refused(_) => 64,
-    };
-    found::told(n == k) | found::bytes(fd, k, &room)
+    let answer = x.append_ascii(k, &mut room);
+    let same = found::bytes(data, k, &room)?;
+    match answer {
+        LettersAnswer::Written(n) => Some(same & (n == k)),
+        LettersAnswer::Refused(_) => Some(false),
+    }
 }
 
 // What was answered.
-fn answers(fd: i32, k: usize, x: Answered, other: Kmer, code: u64, place: usize) -> u8 {
-    let mut found = found::SAME;
-    let mut i = 0;
-    while i < 5 {
-        found = found | kmer(fd, made(i, k, x, code));
-        i += 1;
+fn answers(
+    data: &mut Data<'_>,
+    k: usize,
+    x: Answered,
+    other: Kmer,
+    code: u8,
+    place: usize,
+) -> Option<bool> {
+    let mut same = true;
+    for which in 0..5 {
+        same &= kmer(data, made(which, k, x, code))?;
     }
-    let mut j = 0;
-    while j < 5 {
-        found = found | found::number(fd, 1, asked(j, k, x.kmer, other, place));
-        j += 1;
+    for which in 0..5 {
+        same &= data.byte()? == asked(which, k, x.kmer, other, place);
     }
-    found | letters(fd, k, x.kmer)
+    same &= letters(data, k, x.kmer)?;
+    Some(same)
 }
 
 // A case, whose K is read.
-pub fn case(fd: i32, k: usize) -> u8 {
-    let mut room = [0u8; 63];
-    if 63 < k {
-        return found::CUT;
-    }
-    read::fill(fd, k, &mut room);
-    let x = Kmer::from_ascii(k, &room);
-    read::fill(fd, k, &mut room);
-    let other = Kmer::from_ascii(k, &room);
-    let code = read::number(fd, 1);
-    let place = read::number(fd, 1) as usize;
-    answers(fd, k, x, other.kmer, code, place)
+pub fn case(data: &mut Data<'_>, k: usize) -> Option<bool> {
+    let x = Kmer::from_ascii(k, data.bytes(k)?);
+    let other = Kmer::from_ascii(k, data.bytes(k)?);
+    let code = data.byte()?;
+    let place = data.byte()?;
+    answers(data, k, x, other.kmer, code, usize::from(place))
 }

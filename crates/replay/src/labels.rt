@@ -1,83 +1,89 @@
 // Labels added to a table one after another.
-use super::{found, read};
+use super::found;
+use super::read::Data;
 use adding::AddAnswer;
 
-// The edges of a label and the vertices stored after it; and what was found so far.
+// The edges of a label and the vertices stored after it; and whether all was the same so far.
 #[derive(Clone, Copy)]
 struct After {
     edges: usize,
     stored: usize,
-    found: u8,
-}
-
-fn nothing(found: u8) -> After {
-    After {
-        edges: 0,
-        stored: 0,
-        found,
-    }
+    same: bool,
 }
 
 // After a label that was answered so.
-fn answered(answer: AddAnswer, found: u8) -> After {
+fn answered(answer: AddAnswer, same: bool) -> After {
     match answer {
         AddAnswer::Added { edges, stored } => After {
             edges,
             stored,
-            found,
+            same,
         },
-        _ => nothing(found | found::DIFFERS),
+        _ => After {
+            edges: 0,
+            stored: 0,
+            same: false,
+        },
     }
 }
 
 // A label read and added.
-fn add(fd: i32, k: usize, before: After, keys: &mut [u64], counts: &mut [u32]) -> After {
-    let mut label = [0u8; 4096];
-    let length = read::length(fd);
-    if 4096 < length {
-        return nothing(found::CUT);
-    }
-    read::fill(fd, length, &mut label);
-    answered(
-        adding::add_label(
-            state::EdgeKind::Counted,
-            adding::Mode::SameCanonical,
-            k,
-            before.stored,
-            keys,
-            counts,
-            &label[..length],
-        ),
-        before.found,
-    )
+fn add(
+    data: &mut Data<'_>,
+    k: usize,
+    before: After,
+    keys: &mut [u64],
+    counts: &mut [u32],
+) -> Option<After> {
+    let length = data.length()?;
+    let label = data.bytes(length)?;
+    let answer = adding::add_label(
+        state::EdgeKind::Counted,
+        adding::Mode::SameCanonical,
+        k,
+        before.stored,
+        keys,
+        counts,
+        label,
+    );
+    Some(answered(answer, before.same))
 }
 
 // A label, and what was answered.
-fn step(fd: i32, k: usize, before: After, keys: &mut [u64], counts: &mut [u32]) -> After {
-    let now = add(fd, k, before, keys, counts);
-    let edges = found::number(fd, 2, now.edges as u64);
-    let n = read::length(fd);
-    let found = found::told(n == now.stored) | found::table(fd, n, keys, counts);
-    After {
-        edges: now.edges,
-        stored: now.stored,
-        found: now.found | edges | found,
-    }
+fn step(
+    data: &mut Data<'_>,
+    k: usize,
+    before: After,
+    keys: &mut [u64],
+    counts: &mut [u32],
+) -> Option<After> {
+    let After {
+        edges,
+        stored,
+        same,
+    } = add(data, k, before, keys, counts)?;
+    let same_edges = data.length()? == edges;
+    let n = data.length()?;
+    let same_table = found::table(data, n, keys, counts)?;
+    Some(After {
+        edges,
+        stored,
+        same: same & same_edges & (n == stored) & same_table,
+    })
 }
 
 // A case, whose K is read.
-pub fn case(fd: i32, k: usize) -> u8 {
+pub fn case(data: &mut Data<'_>, k: usize) -> Option<bool> {
     let mut keys = [0u64; 2048];
     let mut counts = [0u32; 1024];
-    let labels = read::length(fd);
-    let mut now = nothing(found::SAME);
-    let mut i = 0;
-    while i < labels {
-        now = step(fd, k, now, &mut keys, &mut counts);
-        if now.found >= found::CUT {
-            return found::CUT;
-        }
-        i += 1;
+    let labels = data.length()?;
+    let mut now = After {
+        edges: 0,
+        stored: 0,
+        same: true,
+    };
+    for _ in 0..labels {
+        now = step(data, k, now, &mut keys, &mut counts)?;
     }
-    now.found
+    Some(now.same)
 }

@@ -1,9 +1,11 @@
-// Compares recorded answers of the Rust original with the library's. Each data file holds cases of one kind; a line says how many
-// were compared and how many differ. A file that is missing or empty, or ends within a case, is said to be so instead.
-// The first ten cases of a file that differ are named, counted from 1.
+// Compares recorded answers of the Rust original with the library's. Each data file holds cases of one kind; a line
+// says how many were compared and how many differ. A file that is missing or empty, or ends within a case, is said to
+// be so instead. The first ten cases of a file that differ are named, counted from 1.
 #![tactic(auto)]
 
-use libc::STDOUT_FILENO;
+use read::Data;
+use std::rt::Files;
+use std::{fs, io};
 
 mod files;
 mod found;
@@ -13,98 +15,95 @@ mod read;
 mod tables;
 
 #[derive(Clone, Copy)]
+enum Kind {
+    Kmers,
+    Labels,
+    Tables,
+    Files,
+}
+
+#[derive(Clone, Copy)]
 struct Tally {
     compared: usize,
     differ: usize,
     cut: bool,
 }
 
-// What is found where the file ends before a case.
-const END: u8 = 4;
-
-// More cases than a file has: that a file ends proves no loop to end.
-const MOST: usize = 1000000;
-
-fn text(s: &[u8]) {
-    io::write_all(STDOUT_FILENO, s);
-}
-
-fn say(n: usize, s: &[u8]) {
-    io::print_decimal(STDOUT_FILENO, n as u64);
-    text(s);
-}
-
-// The next case of a file of this kind.
-fn next(fd: i32, kind: u8) -> u8 {
-    let first = read::number(fd, 1);
-    if first == read::MISSING {
-        return END;
-    }
+// Whether the library answers as is recorded in the next case, whose first byte is read; `None` where the case is cut.
+fn case(data: &mut Data<'_>, kind: Kind, first: u8) -> Option<bool> {
     match kind {
-        0 => kmers::case(fd, first as usize),
-        1 => labels::case(fd, first as usize),
-        2 => tables::case(fd, first as usize),
-        _ => files::case(fd, first as usize),
+        Kind::Kmers => kmers::case(data, usize::from(first)),
+        Kind::Labels => labels::case(data, usize::from(first)),
+        Kind::Tables => tables::case(data, usize::from(first)),
+        Kind::Files => files::case(data, first),
     }
 }
 
-fn note(name: &[u8], found: u8, case: usize, differ: usize) {
-    if found == found::DIFFERS && differ <= 10 {
-        text(name);
-        text(b": case ");
-        say(case, b" differs\n");
-    }
-}
-
-fn compare(fd: i32, name: &[u8], kind: u8) -> Tally {
-    let mut compared = 0;
+fn compare(rt: &impl Print, name: &str, kind: Kind, bytes: &[u8]) -> io::Result<Tally> {
+    let mut data = Data::new(bytes);
     let mut differ = 0;
-    while compared < MOST {
-        let found = next(fd, kind);
-        if found >= found::CUT {
-            return Tally {
+    // Each case takes a byte at least.
+    for compared in 0..bytes.len() {
+        let Some(first) = data.byte() else {
+            return Ok(Tally {
                 compared,
                 differ,
-                cut: found < END,
-            };
+                cut: false,
+            });
+        };
+        let Some(same) = case(&mut data, kind, first) else {
+            return Ok(Tally {
+                compared,
+                differ,
+                cut: true,
+            });
+        };
+        if !same {
+            differ += 1;
+            if differ <= 10 {
+                println!(rt; "{name}: case {} differs", compared + 1)?;
+            }
         }
-        compared += 1;
-        differ += found as usize;
-        note(name, found, compared, differ);
     }
-    Tally {
+    Ok(Tally {
+        compared: bytes.len(),
+        differ,
+        cut: false,
+    })
+}
+
+fn report(rt: &impl Print, name: &str, tally: Tally) -> io::Result<()> {
+    let Tally {
         compared,
         differ,
-        cut: true,
+        cut,
+    } = tally;
+    if cut {
+        println!(rt; "{name}: data cut short")
+    } else if compared == 0 {
+        println!(rt; "{name}: data missing")
+    } else {
+        println!(rt; "{name}: {compared} compared, {differ} differ")
     }
 }
 
-fn report(tally: Tally) {
-    if tally.cut {
-        text(b": data cut short\n");
-        return;
+// A file that is not there is read as an empty one.
+fn read_file<R: Files + AllocGlobal>(rt: &R, name: &str) -> io::Result<Vec<u8>> {
+    match fs::read(rt, name) {
+        Err(e) if e.kind() == io::ErrorKind::NotFound => Ok(Vec::new(rt.alloc())),
+        result => result,
     }
-    if tally.compared == 0 {
-        text(b": data missing\n");
-        return;
-    }
-    text(b": ");
-    say(tally.compared, b" compared, ");
-    say(tally.differ, b" differ\n");
 }
 
-// A file that cannot be opened has no first case either.
-fn replay(name: &[u8], kind: u8) {
-    let fd = os::open_read(name);
-    let tally = compare(fd, name, kind);
-    libc::close(fd);
-    text(name);
-    report(tally);
+fn replay<R: Files + Print + AllocGlobal>(rt: &R, name: &str, kind: Kind) -> io::Result<()> {
+    let bytes = read_file(rt, name)?;
+    let tally = compare(rt, name, kind, &bytes)?;
+    report(rt, name, tally)
 }
 
-fn main() {
-    replay(b"kmers", 0);
-    replay(b"labels", 1);
-    replay(b"tables", 2);
-    replay(b"files", 3);
+fn main(rt: HostRuntime) -> io::Result<()> {
+    replay(&rt, "kmers", Kind::Kmers)?;
+    replay(&rt, "labels", Kind::Labels)?;
+    replay(&rt, "tables", Kind::Tables)?;
+    replay(&rt, "files", Kind::Files)
 }

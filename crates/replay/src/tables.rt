@@ -1,16 +1,17 @@
 // A table made by hand and its contraction.
-use super::{found, read};
+use super::found;
+use super::read::Data;
 use contraction::ContractAnswer;
 
 // The number of the refusal, 0 where there is none, and the labels and bases listed.
 #[derive(Clone, Copy)]
 struct Totals {
-    refusal: u64,
+    refusal: u8,
     labels: usize,
     bases: usize,
 }
 
-fn refused(refusal: u64) -> Totals {
+fn refused(refusal: u8) -> Totals {
     Totals {
         refusal,
         labels: 0,
@@ -33,30 +34,26 @@ fn sums(answer: ContractAnswer) -> Totals {
 
 // What was answered: the refusal, the marks of n vertices, the labels and their index.
 fn answers(
-    fd: i32,
+    data: &mut Data<'_>,
     n: usize,
     all: Totals,
     labels: &[u8],
     starts: &[u32],
     lengths: &[u32],
     marks: &[u8],
-) -> u8 {
-    let refusal = found::number(fd, 1, all.refusal);
-    let marked = found::bytes(fd, n, marks);
-    let bases = read::length(fd);
-    let spelled = found::told(bases == all.bases) | found::bytes(fd, bases, labels);
-    let count = read::length(fd);
-    refusal
-        | marked
-        | spelled
-        | found::told(count == all.labels)
-        | found::cells(fd, 2, count, starts)
-        | found::cells(fd, 2, count, lengths)
+) -> Option<bool> {
+    let refusal = data.byte()? == all.refusal;
+    let marked = found::bytes(data, n, marks)?;
+    let bases = data.length()?;
+    let spelled = found::bytes(data, bases, labels)?;
+    let count = data.length()?;
+    let indexed = found::index(data, count, starts, lengths)?;
+    Some(refusal & marked & (bases == all.bases) & spelled & (count == all.labels) & indexed)
 }
 
 // A table contracted into slices, and what was answered.
 fn contracted(
-    fd: i32,
+    data: &mut Data<'_>,
     k: usize,
     cutoff: u32,
     n: usize,
@@ -65,7 +62,7 @@ fn contracted(
     labels: &mut [u8],
     starts: &mut [u32],
     lengths: &mut [u32],
-) -> u8 {
+) -> Option<bool> {
     let mut marks = [0u8; 32];
     let all = sums(contraction::contract(
         state::EdgeKind::Counted,
@@ -79,45 +76,46 @@ fn contracted(
         lengths,
         &mut marks,
     ));
-    answers(fd, n, all, labels, starts, lengths, &marks)
+    answers(data, n, all, labels, starts, lengths, &marks)
 }
 
 // A table of n vertices, with room for so many bytes and entries.
-fn with_room(fd: i32, k: usize, cutoff: u32, n: usize, keys: &[u64], counts: &[u32]) -> u8 {
+fn with_room(
+    data: &mut Data<'_>,
+    k: usize,
+    cutoff: u32,
+    n: usize,
+    keys: &[u64],
+    counts: &[u32],
+) -> Option<bool> {
     let mut labels = [0u8; 4096];
     let mut starts = [0u32; 64];
     let mut lengths = [0u32; 64];
-    let room = read::length(fd);
-    if 4096 < room {
-        return found::CUT;
-    }
-    let entries = read::length(fd);
-    if 64 < entries {
-        return found::CUT;
-    }
+    let room = data.length()?;
+    let entries = data.length()?;
     contracted(
-        fd,
+        data,
         k,
         cutoff,
         n,
         keys,
         counts,
-        &mut labels[..room],
-        &mut starts[..entries],
-        &mut lengths[..entries],
+        labels.get_mut(..room)?,
+        starts.get_mut(..entries)?,
+        lengths.get_mut(..entries)?,
     )
 }
 
 // A case, whose K is read.
-pub fn case(fd: i32, k: usize) -> u8 {
+pub fn case(data: &mut Data<'_>, k: usize) -> Option<bool> {
     let mut keys = [0u64; 64];
     let mut counts = [0u32; 32];
-    let cutoff = read::cell(fd);
-    let n = read::length(fd);
-    if 32 < n {
-        return found::CUT;
+    let cutoff = data.cell()?;
+    let n = data.length()?;
+    if n > 32 {
+        return None;
     }
-    read::words(fd, 2 * n, &mut keys);
-    read::cells(fd, n, &mut counts);
-    with_room(fd, k, cutoff, n, &keys, &counts)
+    data.words(&mut keys[..2 * n])?;
+    data.cells(&mut counts[..n])?;
+    with_room(data, k, cutoff, n, &keys, &counts)
 }
