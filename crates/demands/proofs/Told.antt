@@ -8,7 +8,7 @@ use lib.Dec.{ltb, eqb}
 use lib.ListN.{length}
 use Rattle.lemmas.proofs.Tests.{choose}
 use Rattle.dna.specs.Letters.{is_base, first_bad}
-use Rattle.dna.specs.Answer.{Answer, gives, Filled}
+use Rattle.dna.specs.Answer.{Answer, gives, refuses, Filled}
 use Rattle.dna.proofs.Answers.{either}
 use Rattle.kmer.specs.Kmer.{ok_k}
 use Rattle.state.specs.Counted.{Kind, answers_for}
@@ -80,8 +80,13 @@ module _ (κ : Kind) (rule : Rule) (K : ℕ) where
       let a = add_label κ rule K s.stored s.keys s.counts l in
       either (λ (t : Several). Told t.answer) s.answer
       (λ _ _. either (λ (t : Several). Told (add_each κ rule K t ls).answer) a.answer
-      (λ e _. each_told _ ls (one.Added e.edges e.stored, refl))
-      (λ r vs q. each_told _ ls (rw q at (add_told κ rule K s.stored s.keys s.counts l))))
+      (λ e _.
+          let t : Several = record { answer = gives e; labels = suc s.labels; stored = e.stored; keys = a.keys; counts = a.counts } in
+          each_told t ls (one.Added e.edges e.stored, refl))
+      (λ r vs q.
+          let t : Several =
+            record { answer = refuses r vs; labels = s.labels; stored = s.stored; keys = a.keys; counts = a.counts } in
+          each_told t ls (rw q at (add_told κ rule K s.stored s.keys s.counts l))))
       (λ r vs q. h)
 
   pub labels_told : (n : ℕ) (keys counts text starts lengths : List ℕ) (count : ℕ)

@@ -1,4 +1,5 @@
-// `judge LABEL-FILE`: a list as FASTA on standard input, judged by a label file; the line of a verdict or of a refusal on standard output.
+// `judge LABEL-FILE`: a list as FASTA on standard input, judged by a label file; the line of a verdict or of a refusal
+// on standard output.
 #![tactic(auto)]
 
 ghost use Rattle.std.specs.Prelude.{◌≡◌, ◌≤◌, length, take, replicate};
@@ -6,20 +7,24 @@ ghost use Rattle.label_file.specs.Judged.{judged};
 ghost use Rattle.reading.specs.Within.{Within};
 
 use label_file::ListAnswer;
-use libc::{STDERR_FILENO, STDOUT_FILENO};
 use reading::Input;
+use std::env::{Env, FillError};
+use std::fs::{File, Files};
+use std::io;
 
-fn complain(what: &[u8]) {
-    io::write_all(STDERR_FILENO, what);
+fn complain(rt: &impl Eprint, what: &str) -> io::Result<()> {
+    rt.eprintln(what)
 }
 
-fn print(text: &[u8]) {
-    if !io::write_all(STDOUT_FILENO, text) {
-        complain(b"judge: standard output could not be written\n");
+fn print(rt: &(impl Print + Eprint), text: &[u8]) -> io::Result<()> {
+    match rt.write_all(text) {
+        Ok(()) => Ok(()),
+        Err(_) => complain(rt, "judge: standard output could not be written"),
     }
 }
 
-// What is to be printed for a label file and a list, in a text of zeros; the other buffers are filled with zeros here. The answer is its size.
+// What is to be printed for a label file and a list, in a text of zeros; the other buffers are filled with zeros here.
+// The answer is its size.
 fn judgement(file: &[u8], list: &[u8], text: &mut [u8]) -> usize
     requires { text.old ≡ replicate 64 0 }
     ensures { (take result text.new ≡ judged file.now list.now) × (result ≤ length text.new) }
@@ -33,48 +38,50 @@ fn judgement(file: &[u8], list: &[u8], text: &mut [u8]) -> usize
     }
 }
 
-// A file by its name. It is closed before standard input is read, whose number it would have where that is closed.
-fn read_file(name: &[u8], file: &mut [u8]) -> Input
+// A file by its name; std opens none whose name is not UTF-8. It is closed before standard input is read, whose
+// number it would have where that is closed.
+fn read_file(rt: &impl Files, name: &[u8], file: &mut [u8]) -> Input
     ensures { Within result file.new }
 {
-    let fd = os::open_read(name);
-    if fd < 0 {
+    let Ok(name) = str::from_utf8(name) else {
         return Input::Failed;
-    }
-    let input = reading::read_from(fd, file);
-    libc::close(fd);
-    input
+    };
+    let Ok(mut reader) = File::open(rt, name) else {
+        return Input::Failed;
+    };
+    reading::read_from(&mut reader, file)
 }
 
 // The list read and judged. One of more than 262,144 bytes is not taken: a buffer one byte larger tells it.
-fn judge_by(file: &[u8]) {
+fn judge_by(rt: &(impl io::Input + Print + Eprint), file: &[u8]) -> io::Result<()> {
     let mut list = [0u8; 262145];
-    let Input::Bytes(n) = reading::read_input(&mut list) else {
-        complain(b"judge: standard input could not be read\n");
-        return;
+    let Input::Bytes(n) = reading::read_input(rt, &mut list) else {
+        return complain(rt, "judge: standard input could not be read");
     };
     if 262144 < n {
-        complain(b"judge: the list is over 262144 bytes\n");
-        return;
+        return complain(rt, "judge: the list is over 262144 bytes");
     }
     let mut text = [0u8; 64];
     let size = judgement(file, &list[..n], &mut text);
-    print(&text[..size]);
+    print(rt, &text[..size])
 }
 
-// A name that is too long for the space comes as no bytes, and no file has that name. A buffer one byte larger than the largest label file
-// tells one that is too large.
-fn main() {
-    if os::arg_count() != 2 {
-        complain(b"usage: judge LABEL-FILE < LIST\n");
-        return;
+// Whether the command has an argument of this number; the program's name is 0.
+fn is_given(rt: &impl Env, i: usize) -> bool {
+    !matches!(rt.arg(i, &mut [0u8; 1]), Err(FillError::NotPresent))
+}
+
+// A name that is too long for the space comes as no bytes, and no file has that name. A buffer one byte larger than
+// the largest label file tells one that is too large.
+fn main(rt: HostRuntime) -> io::Result<()> {
+    if !is_given(&rt, 1) || is_given(&rt, 2) {
+        return complain(&rt, "usage: judge LABEL-FILE < LIST");
     }
     let mut name = [0u8; 4096];
-    let size = os::arg(1, &mut name);
+    let size = rt.arg(1, &mut name).unwrap_or(0);
     let mut file = [0u8; 16385];
-    let Input::Bytes(n) = read_file(&name[..size], &mut file) else {
-        complain(b"judge: the label file could not be read\n");
-        return;
+    let Input::Bytes(n) = read_file(&rt, &name[..size], &mut file) else {
+        return complain(&rt, "judge: the label file could not be read");
     };
-    judge_by(&file[..n]);
+    judge_by(&rt, &file[..n])
 }

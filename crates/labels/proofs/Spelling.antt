@@ -42,7 +42,8 @@ module _ (most : ℕ) where
   unfolding are_digits
   from_high x d ds l h = rw (le-leb 48 d l, lt-leb d 57 h)
 
-  from_digit : (x d : ℕ) (ds : List ℕ) → 48 ≤ d → d ≤ 57 → spelled_from x (d ∷ ds) most ≡ spelled_from (10 * x + (d - 48)) ds most
+  from_digit : (x d : ℕ) (ds : List ℕ) → 48 ≤ d → d ≤ 57
+      → spelled_from x (d ∷ ds) most ≡ spelled_from (10 * x + (d - 48)) ds most
   unfolding are_digits said
   from_digit x d ds l h = rw (le-leb 48 d l, le-leb d 57 h)
 

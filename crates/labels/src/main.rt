@@ -5,8 +5,9 @@ ghost use Rattle.std.specs.Prelude.{◌≡◌};
 ghost use Rattle.labels.specs.Spelled.{spelled, Given};
 
 use label_text::PackAnswer;
-use libc::{STDERR_FILENO, STDOUT_FILENO};
 use reading::Input;
+use std::env::{Env, FillError};
+use std::io;
 
 // A number that an argument says.
 #[derive(Clone, Copy)]
@@ -15,8 +16,8 @@ enum Number {
     Bad,
 }
 
-fn complain(what: &[u8]) {
-    io::write_all(STDERR_FILENO, what);
+fn complain(rt: &impl Eprint, what: &str) -> io::Result<()> {
+    rt.eprintln(what)
 }
 
 // Decimal digits, at least one, that say a number not above a limit.
@@ -46,65 +47,70 @@ fn number_of(digits: &[u8], most: u32) -> Number
 }
 
 // The number that an argument says. One that is missing, or too long for the space, comes as no digits.
-fn argument(i: usize, most: u32) -> Number
+fn argument(rt: &impl Env, i: usize, most: u32) -> Number
     ensures { Given most result }
 {
     let mut space = [0u8; 64];
-    let n = os::arg(i, &mut space);
+    let n = rt.arg(i, &mut space).unwrap_or(0);
     number_of(&space[..n], most)
 }
 
-fn mixed() {
-    complain(b"labels: the text has a '>' and does not begin with one\n");
+fn mixed(rt: &impl Eprint) -> io::Result<()> {
+    complain(rt, "labels: the text has a '>' and does not begin with one")
 }
 
-fn too_large() {
-    complain(b"labels: the label file would be over 16384 bytes\n");
+fn too_large(rt: &impl Eprint) -> io::Result<()> {
+    complain(rt, "labels: the label file would be over 16384 bytes")
 }
 
-fn print(file: &[u8]) {
-    if !io::write_all(STDOUT_FILENO, file) {
-        complain(b"labels: standard output could not be written\n");
+fn print(rt: &(impl Print + Eprint), file: &[u8]) -> io::Result<()> {
+    match rt.write_all(file) {
+        Ok(()) => Ok(()),
+        Err(_) => complain(rt, "labels: standard output could not be written"),
     }
 }
 
-// The label file of a text, printed. The buffer holds the largest file, so one without room in it is too large as well.
-fn pack(text: &[u8], k: u8, cutoff: u32) {
+// The label file of a text, printed. The buffer holds the largest file, so one without room in it is too large
+// as well.
+fn pack(rt: &(impl Print + Eprint), text: &[u8], k: u8, cutoff: u32) -> io::Result<()> {
     let mut file = [0u8; 16384];
     match label_text::pack(text, k, cutoff, &mut file) {
-        PackAnswer::Packed(n) => print(&file[..n]),
-        PackAnswer::Mixed => mixed(),
-        PackAnswer::TooLarge => too_large(),
-        PackAnswer::NoRoom => too_large(),
+        PackAnswer::Packed(n) => print(rt, &file[..n]),
+        PackAnswer::Mixed => mixed(rt),
+        PackAnswer::TooLarge => too_large(rt),
+        PackAnswer::NoRoom => too_large(rt),
     }
 }
 
 // A text of more than 262,144 bytes is not taken: a buffer one byte larger tells it.
-fn read_and_pack(k: u8, cutoff: u32) {
+fn read_and_pack(rt: &(impl io::Input + Print + Eprint), k: u8, cutoff: u32) -> io::Result<()> {
     let mut text = [0u8; 262145];
-    let Input::Bytes(n) = reading::read_input(&mut text) else {
-        complain(b"labels: standard input could not be read\n");
-        return;
+    let Input::Bytes(n) = reading::read_input(rt, &mut text) else {
+        return complain(rt, "labels: standard input could not be read");
     };
     if 262144 < n {
-        complain(b"labels: the input is over 262144 bytes\n");
-        return;
+        return complain(rt, "labels: the input is over 262144 bytes");
     }
-    pack(&text[..n], k, cutoff);
+    pack(rt, &text[..n], k, cutoff)
 }
 
-fn main() {
-    if os::arg_count() != 3 {
-        complain(b"usage: labels K CUTOFF < TEXT > LABEL-FILE\n");
-        return;
+// Whether the command has an argument of this number; the program's name is 0.
+fn is_given(rt: &impl Env, i: usize) -> bool {
+    !matches!(rt.arg(i, &mut [0u8; 1]), Err(FillError::NotPresent))
+}
+
+fn main(rt: HostRuntime) -> io::Result<()> {
+    if !is_given(&rt, 2) || is_given(&rt, 3) {
+        return complain(&rt, "usage: labels K CUTOFF < TEXT > LABEL-FILE");
     }
-    let Number::Is(k) = argument(1, 255) else {
-        complain(b"labels: K must be a number from 0 to 255\n");
-        return;
+    let Number::Is(k) = argument(&rt, 1, 255) else {
+        return complain(&rt, "labels: K must be a number from 0 to 255");
     };
-    let Number::Is(cutoff) = argument(2, 4294967295) else {
-        complain(b"labels: the cutoff must be a number from 0 to 4294967295\n");
-        return;
+    let Number::Is(cutoff) = argument(&rt, 2, 4294967295) else {
+        return complain(
+            &rt,
+            "labels: the cutoff must be a number from 0 to 4294967295",
+        );
     };
-    read_and_pack(k as u8, cutoff);
+    read_and_pack(&rt, k as u8, cutoff)
 }

@@ -1,9 +1,11 @@
-// A file, or standard input, read whole. What it holds is the world's, so the contracts say only how much of the buffer it took.
+// A file, or standard input, read whole. What it holds is the world's, so the contracts say only how much of the
+// buffer it took.
 #![tactic(auto)]
 
 ghost use Rattle.reading.specs.Within.{Within};
 
-use libc::STDIN_FILENO;
+use std::io;
+use std::io::Read;
 
 // The bytes of the input, or that it could not be read.
 #[derive(Clone, Copy)]
@@ -13,23 +15,22 @@ pub enum Input {
 }
 
 // One read into a slice: how many bytes came.
-fn read_some(fd: i32, part: &mut [u8]) -> Input
+fn read_some<R: Read>(reader: &mut R, part: &mut [u8]) -> Input
     ensures { Within result part.new }
 {
-    let got = libc::read(fd, part);
-    if got < 0 {
-        return Input::Failed;
+    match reader.read(part) {
+        Ok(n) => Input::Bytes(n),
+        Err(_) => Input::Failed,
     }
-    Input::Bytes(io::count(got, part))
 }
 
-// Reads a descriptor until its input ends or the buffer is full; the input stands from the buffer's first byte on.
-pub fn read_from(fd: i32, buffer: &mut [u8]) -> Input
+// Reads until the input ends or the buffer is full; the input stands from the buffer's first byte on.
+pub fn read_from<R: Read>(reader: &mut R, buffer: &mut [u8]) -> Input
     ensures { Within result buffer.new }
 {
     let mut done = 0;
     while done < buffer.len() {
-        match read_some(fd, &mut buffer[done..]) {
+        match read_some(reader, &mut buffer[done..]) {
             Input::Failed => return Input::Failed,
             Input::Bytes(more) => {
                 if more == 0 {
@@ -43,8 +44,8 @@ pub fn read_from(fd: i32, buffer: &mut [u8]) -> Input
 }
 
 // Standard input.
-pub fn read_input(buffer: &mut [u8]) -> Input
+pub fn read_input(rt: &impl io::Input, buffer: &mut [u8]) -> Input
     ensures { Within result buffer.new }
 {
-    read_from(STDIN_FILENO, buffer)
+    read_from(&mut rt.reader(), buffer)
 }

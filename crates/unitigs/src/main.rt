@@ -5,20 +5,22 @@ ghost use Rattle.std.specs.Prelude.{◌≡◌, ◌≤◌, length, take, replicat
 ghost use Rattle.label_file.specs.Output.{unitigs};
 
 use label_file::ListAnswer;
-use libc::{STDERR_FILENO, STDOUT_FILENO};
 use reading::Input;
+use std::io;
 
-fn complain(what: &[u8]) {
-    io::write_all(STDERR_FILENO, what);
+fn complain(rt: &impl Eprint, what: &str) -> io::Result<()> {
+    rt.eprintln(what)
 }
 
-fn print(text: &[u8]) {
-    if !io::write_all(STDOUT_FILENO, text) {
-        complain(b"unitigs: standard output could not be written\n");
+fn print(rt: &(impl Print + Eprint), text: &[u8]) -> io::Result<()> {
+    match rt.write_all(text) {
+        Ok(()) => Ok(()),
+        Err(_) => complain(rt, "unitigs: standard output could not be written"),
     }
 }
 
-// What is to be printed for a file, in a text of zeros; the other buffers are filled with zeros here. The answer is its size.
+// What is to be printed for a file, in a text of zeros; the other buffers are filled with zeros here. The answer is
+// its size.
 fn list(file: &[u8], text: &mut [u8]) -> usize
     requires { text.old ≡ replicate 8192 0 }
     ensures { (take result text.new ≡ unitigs file.now) × (result ≤ length text.new) }
@@ -45,13 +47,12 @@ fn list(file: &[u8], text: &mut [u8]) -> usize
 }
 
 // A buffer one byte larger than the largest file tells one that is too large.
-fn main() {
+fn main(rt: HostRuntime) -> io::Result<()> {
     let mut file = [0u8; 16385];
-    let Input::Bytes(n) = reading::read_input(&mut file) else {
-        complain(b"unitigs: standard input could not be read\n");
-        return;
+    let Input::Bytes(n) = reading::read_input(&rt, &mut file) else {
+        return complain(&rt, "unitigs: standard input could not be read");
     };
     let mut text = [0u8; 8192];
     let size = list(&file[..n], &mut text);
-    print(&text[..size]);
+    print(&rt, &text[..size])
 }

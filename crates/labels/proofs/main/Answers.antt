@@ -1,6 +1,5 @@
 -- K is at most 255. Assumes nothing.
-use mathlib.Core.Path.{sym, ◌∙◌}
-use native.Mathlib.Omega.{arith}
+use Rattle.std.proofs.Common.{arith, sym, ◌∙◌}
 use Rattle.labels.proofs.Spelling.{spelled_most}
 use Rattle.labels.proofs.main.Goals as goal
 

@@ -1,11 +1,9 @@
--- What was read lies within the buffer, whose length stays. Assumes nothing.
-use mathlib.Core.Path.{◌≡◌}
-use Prim.Native.Nat.{◌-◌, ◌≤◌}
-use lib.ListN.{length}
+-- What was read lies within the buffer. Assumes nothing.
+use Rattle.std.proofs.Common.{◌≤◌, ◌-◌, length}
 use Rattle.reading.proofs.read_from.Given as goal
 
 abbrev pub invariant-loop-done : goal.invariant-loop-done
-invariant-loop-done l = (l.done ≤ length l.buffer) × (length l.buffer ≡ length l.initial.buffer)
+invariant-loop-done g l = l.done ≤ length l.buffer
 
 abbrev pub decreases-loop-done : goal.decreases-loop-done
-decreases-loop-done l = length l.buffer - l.done
+decreases-loop-done g l = length l.buffer - l.done
