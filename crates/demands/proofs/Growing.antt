@@ -7,6 +7,7 @@ use lib.ListN.{take}
 use Rattle.dna.proofs.Answers.{either}
 use Rattle.lemmas.proofs.Tests.{choose}
 use Rattle.state.specs.Counted.{Kind}
+use Rattle.dna.specs.Answer.{gives}
 use Rattle.label_index.specs.Entries.{listed, within}
 use Rattle.graph.specs.Sightings.{Rule}
 use Rattle.graph.specs.Adding.{add_label}
