@@ -2,12 +2,11 @@
 use mathlib.Core.Path.{◌≡◌, refl, sym, ap, ◌∙◌}
 use mathlib.Core.List.{List, []}
 use Prim.Native.Nat.{ℕ, ◌≤◌, ◌<◌}
-use lib.ListN.{length, take}
+use lib.ListN.{length}
 use borrow.Author.Tests.{lt-ltb, le-ltb}
 use Rattle.dna.specs.Letters.{first_bad}
 use Rattle.kmer.proofs.Bounds.{ok_bounds}
 use Rattle.kmer.proofs.Testing.{no_bad_bases}
-use mathlib.Core.Bool.{true}
 use Rattle.graph.proofs.Accepted.{fit_for_both}
 use Rattle.state.specs.Counted.{Kind}
 use Rattle.graph.specs.Sightings.{Rule}

@@ -6,13 +6,13 @@ use mathlib.Core.List.{List, [], ◌∷◌, map}
 use Prim.Native.Nat.{ℕ, ◌≤◌}
 use native.Mathlib.Omega.{arith}
 use lib.ListN.{length}
-use Rattle.dna.specs.Answer.{Answer, gives, refuses}
+use Rattle.dna.specs.Answer.{Answer}
 use Rattle.state.specs.Counted.{top, answers_for}
 use Rattle.state.specs.declared.EdgeKind.{EdgeKind}
 use Rattle.state.specs.declared.EdgeKind.TheVariants.{Counted, Presence}
 use Rattle.state.specs.Says.{kind_of}
 use Rattle.graph.specs.Adding.{Edges, Added, stored_after, add_label}
-use Rattle.graph.specs.Several.{Several, untried, add_next, add_labels}
+use Rattle.graph.specs.Several.{Several, untried, add_labels}
 use Rattle.graph.specs.Contraction.{contract}
 use Rattle.adding.specs.declared.AddAnswer.{AddAnswer}
 use Rattle.adding.specs.declared.LabelsAnswer.{LabelsAnswer}
@@ -22,7 +22,7 @@ use Rattle.adding.proofs.Says.{add_inj, labels_inj}
 use Rattle.contraction.specs.declared.ContractAnswer.{ContractAnswer}
 use Rattle.contraction.specs.Says.{Contracts}
 use Rattle.contraction.proofs.Says.{contracts_one}
-use Rattle.laws.specs.Beside.{after_each, answers_to, Beside}
+use Rattle.laws.specs.Beside.{after_each, answers_to}
 use Rattle.laws.proofs.AnyKind.{lists_alike}
 use Rattle.laws.proofs.Beside.{call, next_is, given_beside, answers_alike, given_alike, labels_beside}
 use Rattle.demands.specs.Calls.{Called, Given, none, next}

@@ -48,8 +48,8 @@ module _ (κ : Kind) (rule : Rule) (K : ℕ) where
       either (Grows (l ∷ ls) done s) s.answer
       (λ _ _. either (λ (t : Several). Grows (l ∷ ls) done s (add_each κ rule K t ls)) a.answer
       (λ d h.
-          let t : Several = record { answer = gives d; labels = suc s.labels; stored = d.stored; keys = a.keys; counts = a.counts } in
-          grows_one l ls done s t _ refl (grows t ls (l ∷ done) (accepts g l d h)))
+      let t : Several = record { answer = gives d; labels = suc s.labels; stored = d.stored; keys = a.keys; counts = a.counts } in
+      grows_one l ls done s t _ refl (grows t ls (l ∷ done) (accepts g l d h)))
       (λ r vs h.
       let same = refused_same κ rule K s.stored s.keys s.counts l r vs h in
       rw (none_after κ rule K r vs s.labels s.stored a.keys a.counts ls)

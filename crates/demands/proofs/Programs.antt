@@ -1,6 +1,6 @@
 -- What the program `unitigs` lists of a file, for odd K, the program `judge` says yes to, and the answers of a panel
 -- over it share no k-mer. Assumes nothing.
-use mathlib.Core.Path.{◌≡◌, refl, sym, ap, ◌∙◌}
+use mathlib.Core.Path.{◌≡◌, refl, ap, ◌∙◌}
 use mathlib.Core.Bool.{true}
 use mathlib.Core.List.{List, []}
 use Prim.Native.Nat.{ℕ, suc, ◌%◌, ◌≤◌}

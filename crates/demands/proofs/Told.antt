@@ -81,12 +81,12 @@ module _ (κ : Kind) (rule : Rule) (K : ℕ) where
       either (λ (t : Several). Told t.answer) s.answer
       (λ _ _. either (λ (t : Several). Told (add_each κ rule K t ls).answer) a.answer
       (λ e _.
-          let t : Several = record { answer = gives e; labels = suc s.labels; stored = e.stored; keys = a.keys; counts = a.counts } in
-          each_told t ls (one.Added e.edges e.stored, refl))
+      let t : Several = record { answer = gives e; labels = suc s.labels; stored = e.stored; keys = a.keys; counts = a.counts } in
+      each_told t ls (one.Added e.edges e.stored, refl))
       (λ r vs q.
-          let t : Several =
-            record { answer = refuses r vs; labels = s.labels; stored = s.stored; keys = a.keys; counts = a.counts } in
-          each_told t ls (rw q at (add_told κ rule K s.stored s.keys s.counts l))))
+      let t : Several =
+      record { answer = refuses r vs; labels = s.labels; stored = s.stored; keys = a.keys; counts = a.counts } in
+      each_told t ls (rw q at (add_told κ rule K s.stored s.keys s.counts l))))
       (λ r vs q. h)
 
   pub labels_told : (n : ℕ) (keys counts text starts lengths : List ℕ) (count : ℕ)

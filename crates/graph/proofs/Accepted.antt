@@ -16,7 +16,7 @@ use Rattle.dna.specs.Text.{over}
 use Rattle.kmer.specs.Kmer.{ok_k}
 use Rattle.kmer.proofs.Testing.{no_bad_bases}
 use Rattle.state.specs.Counted.{Kind}
-use Rattle.graph.specs.Table.{Table, table_of, keys_of, words_of, capacity, fit, fit_for, words_fit, fit_from, stored}
+use Rattle.graph.specs.Table.{Table, table_of, keys_of, words_of, capacity, fit, fit_for, words_fit, fit_from}
 use Rattle.graph.specs.Sightings.{Rule}
 use Rattle.graph.specs.Adding.{added, Edges, Added, unchanged, changed, add_bases, add_label}
 use Rattle.graph.proofs.Store.{Sound}

@@ -1,11 +1,11 @@
 -- Adding keeps every word without a bit outside its counters. Assumes nothing.
 use mathlib.Core.Path.{◌≡◌, refl}
-use mathlib.Core.Bool.{Bool, true, ◌&&◌}
+use mathlib.Core.Bool.{true}
 use mathlib.Core.List.{List, [], ◌∷◌, ◌++◌}
-use Prim.Native.Nat.{ℕ, zero, suc, ◌<◌, ◌^◌}
+use Prim.Native.Nat.{ℕ, zero, suc, ◌<◌}
 use native.Mathlib.Omega.{arith}
 use lib.Dec.{ltb}
-use lib.ListN.{length, take, drop, get_or, set}
+use lib.ListN.{take, drop, get_or, set}
 use borrow.Author.Tests.{ltb-true}
 use Rattle.lemmas.proofs.Tests.{choose, both}
 use Rattle.dna.specs.Letters.{complement}
@@ -14,7 +14,7 @@ use Rattle.state.specs.Counted.{Kind, word_fits, raise, slot_of}
 use Rattle.state.specs.declared.Side.{Side}
 use Rattle.state.specs.declared.Side.TheVariants.{Front, Back}
 use Rattle.state.proofs.AnyKind.{zero_fits, raise_word_fits}
-use Rattle.graph.specs.Table.{Table, words_fit, insert_at, rank, stored, store, sight}
+use Rattle.graph.specs.Table.{Table, words_fit, insert_at, rank, store, sight}
 use Rattle.graph.specs.Sightings.{Sighting, Rule, window, windows, predecessor, successor, sighting, sightings_at, sightings}
 use Rattle.graph.specs.Adding.{store_windows, sight_all, added}
 use Rattle.graph.proofs.Store.{store_either}

@@ -44,7 +44,7 @@ module _ (κ : Kind) (rule : Rule) (K : ℕ) where
       either (λ (t : Several). t.answer ≡ gives e → t.labels ≡ s.labels + suc (length ls)) s.answer
       (λ _ _. either (λ (n : Several). (add_each κ rule K n ls).answer ≡ gives e → (add_each κ rule K n ls).labels ≡ s.labels + suc (length ls)) a.answer
       (λ d _ h.
-          let n : Several = record { answer = gives d; labels = suc s.labels; stored = d.stored; keys = a.keys; counts = a.counts } in
-          omega (arith, each_all n ls h))
+      let n : Several = record { answer = gives d; labels = suc s.labels; stored = d.stored; keys = a.keys; counts = a.counts } in
+      omega (arith, each_all n ls h))
       (λ r vs _ h. ungiven e r vs (sym (ap (λ (t : Several). t.answer) (sym (none_after r vs s.labels s.stored a.keys a.counts ls)) ∙ h))))
       (λ r vs q h. ungiven e r vs (sym h ∙ q))

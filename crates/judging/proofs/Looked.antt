@@ -6,7 +6,7 @@ use mathlib.Core.List.{List}
 use native.Mathlib.Omega.{arith}
 use borrow.Author.Tests.{ltb-true, ltb-false, lt-ltb, le-ltb, le-leb, lt-leb}
 use lib.Dec.{ltb, eqb}
-use lib.ListN.{length, get_or}
+use lib.ListN.{get_or}
 use Rattle.lemmas.proofs.Tests.{choose}
 use Rattle.kmer.specs.Kmer.{ok_k, rc, canon, is_canon, forward}
 use Rattle.kmer.specs.Calls.{canon_call, reverse_call, forward_call}

@@ -1,13 +1,13 @@
 -- A k-mer that stands is marked, and its edges are told. Assumes nothing.
 use Prim.Native.Nat.{ℕ, ◌+◌, ◌%◌, ◌≤◌}
 use mathlib.Core.Path.{◌≡◌, refl, sym, ap, ap₂, ◌∙◌, subst}
-use mathlib.Core.Bool.{Bool, true, false, cond, not, ◌&&◌, ◌||◌}
+use mathlib.Core.Bool.{Bool, true, false, not, ◌&&◌, ◌||◌}
 use mathlib.Core.List.{List}
 use native.Mathlib.Omega.{arith}
 use borrow.Author.Tests.{ltb-true, ltb-false, le-leb, lt-leb, not-false}
 use lib.Dec.{ltb}
 use lib.ListN.{length, get_or, set, take, drop}
-use Rattle.lemmas.proofs.Tests.{choose, both, never, or_first}
+use Rattle.lemmas.proofs.Tests.{both, never, or_first}
 use Rattle.kmer.specs.Kmer.{ok_k, rc, canon, is_canon}
 use Rattle.kmer.specs.Calls.{pack_call, reverse_call}
 use Rattle.kmer.specs.Says.{value_of, Answers}

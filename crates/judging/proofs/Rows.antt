@@ -7,7 +7,7 @@ use native.Mathlib.Omega.{arith}
 use lib.ListN.{length, get_or, drop}
 use Rattle.kmer.specs.Kmer.{ok_k, rc}
 use Rattle.kmer.proofs.Bounds.{ok_bounds}
-use Rattle.graph.specs.Sightings.{window, windows}
+use Rattle.graph.specs.Sightings.{window}
 use Rattle.graph.specs.Walks.{Ends}
 use Rattle.laws.specs.Windows.{windows_from, windows_of}
 use Rattle.dna.specs.Letters.{reverse_complement}

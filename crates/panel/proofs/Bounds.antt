@@ -1,6 +1,6 @@
 -- A number lies between two in order where its difference to the first, which may wrap, is at most theirs. Assumes
 -- nothing.
-use Rattle.std.proofs.Common.{◌≡◌, ℕ, ◌+◌, ◌-◌, ◌*◌, ◌%◌, ◌^◌, ◌<◌, ◌≤◌, Bool, true, leb, sym, ◌∙◌, ⊎_elim, arith, le-leb, leb-true}
+use Rattle.std.proofs.Common.{◌≡◌, ℕ, ◌+◌, ◌-◌, ◌%◌, ◌^◌, ◌<◌, ◌≤◌, true, leb, sym, ◌∙◌, ⊎_elim, arith, le-leb, leb-true}
 use Rattle.lemmas.proofs.Numbers.{lt_or_ge, mod_is}
 use Rattle.lemmas.proofs.Tests.{both, same_bool}
 use Rattle.panel.specs.Probes.{between}

@@ -230,8 +230,8 @@ module _ (K : ℕ) (ks : List ℕ) (es : List Ends) (one : 1 ≤ K) (odd : K % 2
       go (d ∷ ds) f l few =
           let at : last_of (map (canon K) (d ∷ ds)) ≡ key u = last_map (canon K) d ds ∙ ap (canon K) l
           ∙ canon_seen K ks fit u s g.u_stored in
-          let again : 1 ≤ tally (key u) (map (canon K) (d ∷ ds)) = 
-            subst (λ (n : ℕ). 1 ≤ tally n (map (canon K) (d ∷ ds))) at (last_stands (canon K d) (map (canon K) ds)) in
+          let again : 1 ≤ tally (key u) (map (canon K) (d ∷ ds)) =
+          subst (λ (n : ℕ). 1 ≤ tally n (map (canon K) (d ∷ ds))) at (last_stands (canon K d) (map (canon K) ds)) in
           let k = rw here at few in
           omega arith
   not_before g a (later {z = z} {zs = zs} n) f cb cu l few =

@@ -1,5 +1,5 @@
 -- Rule 4 in a label: what it is told by at the ends, and which pair it then wants together. Assumes nothing.
-use Prim.Native.Nat.{ℕ, suc, ◌+◌, ◌-◌, ◌%◌, ◌^◌, ◌≤◌, ◌<◌}
+use Prim.Native.Nat.{ℕ, suc, ◌-◌, ◌%◌, ◌^◌, ◌≤◌, ◌<◌}
 use mathlib.Core.Path.{◌≡◌, sym, ap, ◌∙◌, subst}
 use mathlib.Core.Logic.{◌⊎◌, inl, inr, ⊎_elim}
 use mathlib.Core.Bool.{true}
@@ -20,14 +20,12 @@ use Rattle.graph.specs.Table.{fit_from}
 use Rattle.graph.specs.Walks.{Ends, seen}
 use Rattle.laws.specs.Windows.{windows_from, windows_of, tally, occurs}
 use Rattle.laws.specs.Neighbours.{Together}
-use Rattle.laws.specs.Demand.{Some.there}
 use Rattle.laws.proofs.Neighbours.{map_reverse, together_turned}
 use Rattle.laws.proofs.Windows.{Small}
 use Rattle.laws.proofs.Occurrences.{tally_reverse, canon_seen}
 use Rattle.rules.specs.Listing.{Label}
 use Rattle.rules.specs.Rules.{Steps}
 use Rattle.rules.specs.Verdict.{kmers_of, loose, breaks4}
-use Rattle.rules.specs.Judged.{At.there}
 use Rattle.rules.proofs.Stepping.{label_small, label_turned}
 use Rattle.rules.proofs.Turning.{last_stands, last_map, turned, turned_kmers, turned_together, turned_tally, steps_turned}
 use Rattle.rules.proofs.Ending.{Wanted, together_or_loose, loose_astray, astray_apart}

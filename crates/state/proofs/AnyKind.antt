@@ -1,16 +1,15 @@
 -- Words of any kind: 0 has no bit outside the counters, and raising one of the eight sets none; below the tops of two kinds a cutoff
 -- retains the same of the same sightings. Assumes nothing.
-use mathlib.Core.Path.{◌≡◌, refl, sym, ap, ap₂, ◌∙◌}
-use mathlib.Core.Bool.{true, cond}
-use mathlib.Core.List.{List, ◌∷◌}
+use mathlib.Core.Path.{◌≡◌, refl, ap, ◌∙◌}
+use mathlib.Core.Bool.{true}
 use Prim.Native.Nat.{ℕ, zero, suc, ◌+◌, ◌*◌, ◌%◌, ◌^◌, ◌≤◌, ◌<◌, min}
-use native.Mathlib.Nat.{zero-mod, mul-zero, add-zero, add-mul-mod_self_left}
+use native.Mathlib.Nat.{zero-mod, mul-zero, add-mul-mod_self_left}
 use native.Mathlib.Omega.{arith}
 use lib.Dec.{leb, eqb, ltb}
 use lib.Pow.{pow-add}
 use borrow.Author.Tests.{eqb-true, eq-eqb, ltb-true, lt-ltb, leb-true, le-leb}
-use Rattle.lemmas.proofs.Tests.{both, choose, same_bool}
-use Rattle.state.specs.Counted.{Kind, four_bits, presence, top, unit, word_fits, slot_of, count, raise, retained, edge_at}
+use Rattle.lemmas.proofs.Tests.{both, same_bool}
+use Rattle.state.specs.Counted.{Kind, unit, word_fits, slot_of, count, raise, retained, edge_at}
 use Rattle.state.specs.declared.Side.{Side}
 use Rattle.state.proofs.Counters.{unit_pos, raised_by, raise_fits}
 

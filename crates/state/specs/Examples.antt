@@ -1,5 +1,5 @@
 -- A word of presence bits, computed: where its bits stand, which words are fit, which cutoffs it answers for. Assumes nothing.
-use Rattle.std.specs.Prelude.{ℕ, ◌≡◌, refl, Bool, true, false, List, [], ◌∷◌, map, replicate}
+use Rattle.std.specs.Prelude.{ℕ, ◌≡◌, refl, Bool, true, false, [], ◌∷◌, map, replicate}
 use Rattle.dna.specs.Answer.{gives, refuses}
 use Rattle.state.specs.Counted.{four_bits, presence, answers_for, word_fits, edge_at, edge_count, is_isolated, at_cutoff, add_edge_call, update_call, open_counted}
 use Rattle.state.specs.declared.Side.TheVariants.{Front, Back}

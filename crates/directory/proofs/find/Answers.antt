@@ -26,14 +26,14 @@ pub offset_bounds-directory-t : goal.offset_bounds-directory-t
 offset_bounds-directory-t c =
     let a = c.args in
     let room : c.slot_of-t.result + 1 < length a.directory.now =
-      look_room a.k a.directory.now (value_of a.x) _ _ c.bases_of-b.ensures c.if-b-eq0.false c.slot_of-t.ensures in
+    look_room a.k a.directory.now (value_of a.x) _ _ c.bases_of-b.ensures c.if-b-eq0.false c.slot_of-t.ensures in
     search rules
 
 pub bounds-directory-t : goal.bounds-directory-t
 bounds-directory-t c =
     let a = c.args in
     let room : c.slot_of-t.result + 1 < length a.directory.now =
-      look_room a.k a.directory.now (value_of a.x) _ _ c.bases_of-b.ensures c.if-b-eq0.false c.slot_of-t.ensures in
+    look_room a.k a.directory.now (value_of a.x) _ _ c.bases_of-b.ensures c.if-b-eq0.false c.slot_of-t.ensures in
     search rules
 
 pub overflow_cast-lo : goal.overflow_cast-lo
@@ -43,21 +43,21 @@ pub overflow_add-hi : goal.overflow_add-hi
 overflow_add-hi c =
     let a = c.args in
     let room : c.slot_of-t.result + 1 < length a.directory.now =
-      look_room a.k a.directory.now (value_of a.x) _ _ c.bases_of-b.ensures c.if-b-eq0.false c.slot_of-t.ensures in
+    look_room a.k a.directory.now (value_of a.x) _ _ c.bases_of-b.ensures c.if-b-eq0.false c.slot_of-t.ensures in
     search rules
 
 pub offset_bounds-directory-t-2 : goal.offset_bounds-directory-t-2
 offset_bounds-directory-t-2 c =
     let a = c.args in
     let room : c.slot_of-t.result + 1 < length a.directory.now =
-      look_room a.k a.directory.now (value_of a.x) _ _ c.bases_of-b.ensures c.if-b-eq0.false c.slot_of-t.ensures in
+    look_room a.k a.directory.now (value_of a.x) _ _ c.bases_of-b.ensures c.if-b-eq0.false c.slot_of-t.ensures in
     search rules
 
 pub bounds-directory-t-2 : goal.bounds-directory-t-2
 bounds-directory-t-2 c =
     let a = c.args in
     let room : c.slot_of-t.result + 1 < length a.directory.now =
-      look_room a.k a.directory.now (value_of a.x) _ _ c.bases_of-b.ensures c.if-b-eq0.false c.slot_of-t.ensures in
+    look_room a.k a.directory.now (value_of a.x) _ _ c.bases_of-b.ensures c.if-b-eq0.false c.slot_of-t.ensures in
     search rules
 
 pub overflow_cast-hi : goal.overflow_cast-hi

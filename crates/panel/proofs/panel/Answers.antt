@@ -24,13 +24,12 @@ returns-then-out-count c =
     c.if-out-count.true
 
 pub answer_each-requires : goal.answer_each-requires
-answer_each-requires c =
-    (
-      profile_some _ _ _ (passed c.in_profile.ensures c.if-not-in_profile.false-raw),
-      bounds_order _ _ _ (passed c.lies_between.ensures c.if-not-lies_between.false-raw),
-      passed c.lie_within.ensures c.if-not-lie_within.false-raw,
-      c.if-out-count.false,
-    )
+answer_each-requires c = (
+  profile_some _ _ _ (passed c.in_profile.ensures c.if-not-in_profile.false-raw),
+  bounds_order _ _ _ (passed c.lies_between.ensures c.if-not-lies_between.false-raw),
+  passed c.lie_within.ensures c.if-not-lie_within.false-raw,
+  c.if-out-count.false,
+)
 
 pub returns : goal.returns
 returns c =

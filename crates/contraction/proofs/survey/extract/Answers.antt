@@ -12,7 +12,7 @@ pub spell-back-requires : goal.spell-back-requires
 spell-back-requires c =
     let a = c.args in
     let y : Asked a.k a.keys.now a.marks.now a.a a.trail.now a.at =
-      record { ready = c.requires.0; vertex = c.requires.1; room = c.requires.2 } in
+    record { ready = c.requires.0; vertex = c.requires.1; room = c.requires.2 } in
     let room = back_room y in
     (c.requires.0, c.requires.1, omega (arith, room))
 
@@ -20,14 +20,14 @@ pub overflow_add-half : goal.overflow_add-half
 overflow_add-half c =
     let a = c.args in
     let y : Asked a.k a.keys.now a.marks.now a.a a.trail.now a.at =
-      record { ready = c.requires.0; vertex = c.requires.1; room = c.requires.2 } in
+    record { ready = c.requires.0; vertex = c.requires.1; room = c.requires.2 } in
     omega (arith, half_fits y c.spell-back.ensures, c.well_formed)
 
 pub bounds-trail-half : goal.bounds-trail-half
 bounds-trail-half c =
     let a = c.args in
     let y : Asked a.k a.keys.now a.marks.now a.a a.trail.now a.at =
-      record { ready = c.requires.0; vertex = c.requires.1; room = c.requires.2 } in
+    record { ready = c.requires.0; vertex = c.requires.1; room = c.requires.2 } in
     half_inside y c.spell-back.ensures
 
 pub overflow_add-result : goal.overflow_add-result
@@ -37,15 +37,15 @@ pub overflow_add-result-then-is_closed : goal.overflow_add-result-then-is_closed
 overflow_add-result-then-is_closed c =
     let a = c.args in
     let y : Asked a.k a.keys.now a.marks.now a.a a.trail.now a.at =
-      record { ready = c.requires.0; vertex = c.requires.1; room = c.requires.2 } in
+    record { ready = c.requires.0; vertex = c.requires.1; room = c.requires.2 } in
     omega (arith, half_fits y c.spell-back.ensures, c.well_formed)
 
 pub returns-then-is_closed : goal.returns-then-is_closed
 returns-then-is_closed c =
     let a = c.args in
     let y : Asked a.k a.keys.now a.marks.now a.a a.trail.now a.at =
-      record { ready = c.requires.0; vertex = c.requires.1; room = c.requires.2 } in
-        let e = sym c.is_closed.ensures ∙ c.if-is_closed.true in
+    record { ready = c.requires.0; vertex = c.requires.1; room = c.requires.2 } in
+    let e = sym c.is_closed.ensures ∙ c.if-is_closed.true in
     let w = c.spell-back.ensures in
     extracts_closed c.requires.0 c.args.a w.walks e (end_closed y w e) (traced_closed y w e)
 
@@ -53,22 +53,22 @@ pub bounds-trail-half-2 : goal.bounds-trail-half-2
 bounds-trail-half-2 c =
     let a = c.args in
     let y : Asked a.k a.keys.now a.marks.now a.a a.trail.now a.at =
-      record { ready = c.requires.0; vertex = c.requires.1; room = c.requires.2 } in
+    record { ready = c.requires.0; vertex = c.requires.1; room = c.requires.2 } in
     half_inside y c.spell-back.ensures
 
 pub overflow_add-half-2 : goal.overflow_add-half-2
 overflow_add-half-2 c =
     let a = c.args in
     let y : Asked a.k a.keys.now a.marks.now a.a a.trail.now a.at =
-      record { ready = c.requires.0; vertex = c.requires.1; room = c.requires.2 } in
+    record { ready = c.requires.0; vertex = c.requires.1; room = c.requires.2 } in
     omega (arith, half_fits y c.spell-back.ensures, c.well_formed)
 
 pub spell-front-requires : goal.spell-front-requires
 spell-front-requires c =
     let a = c.args in
     let y : Asked a.k a.keys.now a.marks.now a.a a.trail.now a.at =
-      record { ready = c.requires.0; vertex = c.requires.1; room = c.requires.2 } in
-        let w = c.spell-back.ensures in
+    record { ready = c.requires.0; vertex = c.requires.1; room = c.requires.2 } in
+    let w = c.spell-back.ensures in
     let o = sym c.is_closed.ensures ∙ c.if-is_closed.false in
     ((front_vertex y w).0, (front_vertex y w).1, front_room y w o)
 
@@ -76,7 +76,7 @@ pub overflow_add-end : goal.overflow_add-end
 overflow_add-end c =
     let a = c.args in
     let y : Asked a.k a.keys.now a.marks.now a.a a.trail.now a.at =
-      record { ready = c.requires.0; vertex = c.requires.1; room = c.requires.2 } in
+    record { ready = c.requires.0; vertex = c.requires.1; room = c.requires.2 } in
     let o = sym c.is_closed.ensures ∙ c.if-is_closed.false in
     omega (arith, end_fits y c.spell-back.ensures o c.spell-front.ensures, c.well_formed)
 
@@ -84,7 +84,7 @@ pub overflow_add-end-2 : goal.overflow_add-end-2
 overflow_add-end-2 c =
     let a = c.args in
     let y : Asked a.k a.keys.now a.marks.now a.a a.trail.now a.at =
-      record { ready = c.requires.0; vertex = c.requires.1; room = c.requires.2 } in
+    record { ready = c.requires.0; vertex = c.requires.1; room = c.requires.2 } in
     let o = sym c.is_closed.ensures ∙ c.if-is_closed.false in
     omega (arith, end_fits y c.spell-back.ensures o c.spell-front.ensures, c.well_formed)
 
@@ -92,7 +92,7 @@ pub bounds-trail-end : goal.bounds-trail-end
 bounds-trail-end c =
     let a = c.args in
     let y : Asked a.k a.keys.now a.marks.now a.a a.trail.now a.at =
-      record { ready = c.requires.0; vertex = c.requires.1; room = c.requires.2 } in
+    record { ready = c.requires.0; vertex = c.requires.1; room = c.requires.2 } in
     let o = sym c.is_closed.ensures ∙ c.if-is_closed.false in
     end_inside y c.spell-back.ensures o c.spell-front.ensures
 
@@ -122,7 +122,7 @@ pub overflow_add-result-4 : goal.overflow_add-result-4
 overflow_add-result-4 c =
     let a = c.args in
     let y : Asked a.k a.keys.now a.marks.now a.a a.trail.now a.at =
-      record { ready = c.requires.0; vertex = c.requires.1; room = c.requires.2 } in
+    record { ready = c.requires.0; vertex = c.requires.1; room = c.requires.2 } in
     let o = sym c.is_closed.ensures ∙ c.if-is_closed.false in
     omega (arith, end_fits y c.spell-back.ensures o c.spell-front.ensures, c.well_formed)
 
@@ -130,10 +130,10 @@ pub returns : goal.returns
 returns c =
     let a = c.args in
     let y : Asked a.k a.keys.now a.marks.now a.a a.trail.now a.at =
-      record { ready = c.requires.0; vertex = c.requires.1; room = c.requires.2 } in
-        let w = c.spell-back.ensures in
+    record { ready = c.requires.0; vertex = c.requires.1; room = c.requires.2 } in
+    let w = c.spell-back.ensures in
     let o = sym c.is_closed.ensures ∙ c.if-is_closed.false in
-        extracts_open c.requires.0 c.args.a w.walks c.spell-front.ensures.walks o
+    extracts_open c.requires.0 c.args.a w.walks c.spell-front.ensures.walks o
     (c.either.ensures ∙ ap₂ ◌||◌ c.is_missing.ensures c.is_missing-2.ensures)
     (end_open y w o c.spell-front.ensures) (traced_open y w o c.spell-front.ensures)
 

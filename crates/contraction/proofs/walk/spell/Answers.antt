@@ -11,18 +11,16 @@ use Rattle.contraction.proofs.Spelling.{spelling_start, spelling_length, spellin
 use Rattle.contraction.proofs.walk.spell.Goals as goal
 
 pub loop-vertex-init : goal.loop-vertex-init
-loop-vertex-init c =
-    (
-      walking_start c.requires.0 c.args.anchor c.args.start c.requires.1,
-      spelling_start _ _ c.args.at c.requires.2,
-      c.strands_of-strands.ensures,
-    )
+loop-vertex-init c = (
+  walking_start c.requires.0 c.args.anchor c.args.start c.requires.1,
+  spelling_start _ _ c.args.at c.requires.2,
+  c.strands_of-strands.ensures,
+)
 
 pub advance-requires : goal.advance-requires
 advance-requires c =
     let l = c.loop-vertex in
-    let g = l.invariant.0 in
-    (
+    let g = l.invariant.0 in (
       ready_still g.ready g.kept,
       omega (arith, g.below, ends_length _ _ g.kept),
       both_still c.args.keys.now c.args.marks.now _ l.v l.s g.kept l.invariant.2,

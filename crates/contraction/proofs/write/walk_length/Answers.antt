@@ -17,7 +17,7 @@ overflow_add-i c =
     let a = c.args in
     let l = c.loop-i in
     let more : l.i < letter_count (drop a.from a.trail.now) =
-      count_more (drop a.from a.trail.now) l.i l.invariant (rw (get_or-drop a.from a.trail.now l.i 0) c.loop-i-test.true) in
+    count_more (drop a.from a.trail.now) l.i l.invariant (rw (get_or-drop a.from a.trail.now l.i 0) c.loop-i-test.true) in
     omega (arith, more, c.requires.within, length-drop c.args.from c.args.trail.now, c.well_formed)
 
 pub loop-i-smaller : goal.loop-i-smaller
@@ -25,7 +25,7 @@ loop-i-smaller c =
     let a = c.args in
     let l = c.loop-i in
     let more : l.i < letter_count (drop a.from a.trail.now) =
-      count_more (drop a.from a.trail.now) l.i l.invariant (rw (get_or-drop a.from a.trail.now l.i 0) c.loop-i-test.true) in
+    count_more (drop a.from a.trail.now) l.i l.invariant (rw (get_or-drop a.from a.trail.now l.i 0) c.loop-i-test.true) in
     omega (arith, more)
 
 pub loop-i-preserved : goal.loop-i-preserved
@@ -33,7 +33,7 @@ loop-i-preserved c =
     let a = c.args in
     let l = c.loop-i in
     let more : l.i < letter_count (drop a.from a.trail.now) =
-      count_more (drop a.from a.trail.now) l.i l.invariant (rw (get_or-drop a.from a.trail.now l.i 0) c.loop-i-test.true) in
+    count_more (drop a.from a.trail.now) l.i l.invariant (rw (get_or-drop a.from a.trail.now l.i 0) c.loop-i-test.true) in
     omega (arith, more)
 
 pub returns : goal.returns

@@ -11,70 +11,70 @@ pub overflow_add-stop : goal.overflow_add-stop
 overflow_add-stop c =
     let a = c.args in
     let y : Legible a.k (value_of a.x) a.trail.now a.from a.buffer.now a.at c.walk_length-back.result =
-      record { piece = c.requires.2; room = c.requires.3; back = c.walk_length-back.ensures } in
+    record { piece = c.requires.2; room = c.requires.3; back = c.walk_length-back.ensures } in
     omega (arith, back_inside y, c.well_formed)
 
 pub bounds-trail-stop : goal.bounds-trail-stop
 bounds-trail-stop c =
     let a = c.args in
     let y : Legible a.k (value_of a.x) a.trail.now a.from a.buffer.now a.at c.walk_length-back.result =
-      record { piece = c.requires.2; room = c.requires.3; back = c.walk_length-back.ensures } in
+    record { piece = c.requires.2; room = c.requires.3; back = c.walk_length-back.ensures } in
     back_inside y
 
 pub put_letters-requires : goal.put_letters-requires
 put_letters-requires c =
     let a = c.args in
     let y : Legible a.k (value_of a.x) a.trail.now a.from a.buffer.now a.at c.walk_length-back.result =
-      record { piece = c.requires.2; room = c.requires.3; back = c.walk_length-back.ensures } in
+    record { piece = c.requires.2; room = c.requires.3; back = c.walk_length-back.ensures } in
     (c.requires.0, c.requires.1, omega (arith, fits_closed y c.if-trail-stop-eq-CLOSED.true))
 
 pub overflow_add-at : goal.overflow_add-at
 overflow_add-at c =
     let a = c.args in
     let y : Legible a.k (value_of a.x) a.trail.now a.from a.buffer.now a.at c.walk_length-back.result =
-      record { piece = c.requires.2; room = c.requires.3; back = c.walk_length-back.ensures } in
+    record { piece = c.requires.2; room = c.requires.3; back = c.walk_length-back.ensures } in
     omega (arith, fits_closed y c.if-trail-stop-eq-CLOSED.true, c.well_formed)
 
 pub copy_walk-requires : goal.copy_walk-requires
 copy_walk-requires c =
     let a = c.args in
     let y : Legible a.k (value_of a.x) a.trail.now a.from a.buffer.now a.at c.walk_length-back.result =
-      record { piece = c.requires.2; room = c.requires.3; back = c.walk_length-back.ensures } in
+    record { piece = c.requires.2; room = c.requires.3; back = c.walk_length-back.ensures } in
     (omega (arith, back_inside y), room_closed y c.if-trail-stop-eq-CLOSED.true c.put_letters.ensures)
 
 pub overflow_add-k : goal.overflow_add-k
 overflow_add-k c =
     let a = c.args in
     let y : Legible a.k (value_of a.x) a.trail.now a.from a.buffer.now a.at c.walk_length-back.result =
-      record { piece = c.requires.2; room = c.requires.3; back = c.walk_length-back.ensures } in
+    record { piece = c.requires.2; room = c.requires.3; back = c.walk_length-back.ensures } in
     omega (arith, fits_closed y c.if-trail-stop-eq-CLOSED.true, c.well_formed)
 
 pub canonicalize_part-requires : goal.canonicalize_part-requires
 canonicalize_part-requires c =
     let a = c.args in
     let y : Legible a.k (value_of a.x) a.trail.now a.from a.buffer.now a.at c.walk_length-back.result =
-      record { piece = c.requires.2; room = c.requires.3; back = c.walk_length-back.ensures } in
+    record { piece = c.requires.2; room = c.requires.3; back = c.walk_length-back.ensures } in
     whole_closed y c.if-trail-stop-eq-CLOSED.true c.put_letters.ensures c.copy_walk.ensures
 
 pub overflow_add-result : goal.overflow_add-result
 overflow_add-result c =
     let a = c.args in
     let y : Legible a.k (value_of a.x) a.trail.now a.from a.buffer.now a.at c.walk_length-back.result =
-      record { piece = c.requires.2; room = c.requires.3; back = c.walk_length-back.ensures } in
+    record { piece = c.requires.2; room = c.requires.3; back = c.walk_length-back.ensures } in
     omega (arith, fits_closed y c.if-trail-stop-eq-CLOSED.true, c.well_formed)
 
 pub overflow_add-result-then-trail-stop-eq-CLOSED : goal.overflow_add-result-then-trail-stop-eq-CLOSED
 overflow_add-result-then-trail-stop-eq-CLOSED c =
     let a = c.args in
     let y : Legible a.k (value_of a.x) a.trail.now a.from a.buffer.now a.at c.walk_length-back.result =
-      record { piece = c.requires.2; room = c.requires.3; back = c.walk_length-back.ensures } in
+    record { piece = c.requires.2; room = c.requires.3; back = c.walk_length-back.ensures } in
     omega (arith, back_inside y, c.well_formed)
 
 pub returns-then-trail-stop-eq-CLOSED : goal.returns-then-trail-stop-eq-CLOSED
 returns-then-trail-stop-eq-CLOSED c =
     let a = c.args in
     let y : Legible a.k (value_of a.x) a.trail.now a.from a.buffer.now a.at c.walk_length-back.result =
-      record { piece = c.requires.2; room = c.requires.3; back = c.walk_length-back.ensures } in
+    record { piece = c.requires.2; room = c.requires.3; back = c.walk_length-back.ensures } in
     written_closed y c.if-trail-stop-eq-CLOSED.true c.put_letters.ensures c.copy_walk.ensures
     c.canonicalize_part.ensures
 
@@ -82,28 +82,28 @@ pub overflow_add-stop-2 : goal.overflow_add-stop-2
 overflow_add-stop-2 c =
     let a = c.args in
     let y : Legible a.k (value_of a.x) a.trail.now a.from a.buffer.now a.at c.walk_length-back.result =
-      record { piece = c.requires.2; room = c.requires.3; back = c.walk_length-back.ensures } in
+    record { piece = c.requires.2; room = c.requires.3; back = c.walk_length-back.ensures } in
     omega (arith, back_inside y, c.well_formed)
 
 pub walk_length-front-requires : goal.walk_length-front-requires
 walk_length-front-requires c =
     let a = c.args in
     let y : Legible a.k (value_of a.x) a.trail.now a.from a.buffer.now a.at c.walk_length-back.result =
-      record { piece = c.requires.2; room = c.requires.3; back = c.walk_length-back.ensures } in
+    record { piece = c.requires.2; room = c.requires.3; back = c.walk_length-back.ensures } in
     front_ends y c.if-trail-stop-eq-CLOSED.false
 
 pub overflow_add-stop-3 : goal.overflow_add-stop-3
 overflow_add-stop-3 c =
     let a = c.args in
     let y : Legible a.k (value_of a.x) a.trail.now a.from a.buffer.now a.at c.walk_length-back.result =
-      record { piece = c.requires.2; room = c.requires.3; back = c.walk_length-back.ensures } in
+    record { piece = c.requires.2; room = c.requires.3; back = c.walk_length-back.ensures } in
     omega (arith, back_inside y, c.well_formed)
 
 pub copy_turned-requires : goal.copy_turned-requires
 copy_turned-requires c =
     let a = c.args in
     let y : Legible a.k (value_of a.x) a.trail.now a.from a.buffer.now a.at c.walk_length-back.result =
-      record { piece = c.requires.2; room = c.requires.3; back = c.walk_length-back.ensures } in
+    record { piece = c.requires.2; room = c.requires.3; back = c.walk_length-back.ensures } in
     let o = c.if-trail-stop-eq-CLOSED.false in
     let m = c.walk_length-front.ensures in
     (front_inside y o m, omega (arith, fits_open y o m))
@@ -112,36 +112,35 @@ pub overflow_add-at-2 : goal.overflow_add-at-2
 overflow_add-at-2 c =
     let a = c.args in
     let y : Legible a.k (value_of a.x) a.trail.now a.from a.buffer.now a.at c.walk_length-back.result =
-      record { piece = c.requires.2; room = c.requires.3; back = c.walk_length-back.ensures } in
+    record { piece = c.requires.2; room = c.requires.3; back = c.walk_length-back.ensures } in
     omega (arith, fits_open y c.if-trail-stop-eq-CLOSED.false c.walk_length-front.ensures, c.well_formed)
 
 pub put_letters-requires-2 : goal.put_letters-requires-2
 put_letters-requires-2 c =
     let a = c.args in
     let y : Legible a.k (value_of a.x) a.trail.now a.from a.buffer.now a.at c.walk_length-back.result =
-      record { piece = c.requires.2; room = c.requires.3; back = c.walk_length-back.ensures } in
+    record { piece = c.requires.2; room = c.requires.3; back = c.walk_length-back.ensures } in
     (c.requires.0, c.requires.1, kmer_room y c.if-trail-stop-eq-CLOSED.false c.walk_length-front.ensures c.copy_turned.ensures)
 
 pub overflow_add-at-3 : goal.overflow_add-at-3
 overflow_add-at-3 c =
     let a = c.args in
     let y : Legible a.k (value_of a.x) a.trail.now a.from a.buffer.now a.at c.walk_length-back.result =
-      record { piece = c.requires.2; room = c.requires.3; back = c.walk_length-back.ensures } in
+    record { piece = c.requires.2; room = c.requires.3; back = c.walk_length-back.ensures } in
     omega (arith, fits_open y c.if-trail-stop-eq-CLOSED.false c.walk_length-front.ensures, c.well_formed)
 
 pub overflow_add-at-4 : goal.overflow_add-at-4
 overflow_add-at-4 c =
     let a = c.args in
     let y : Legible a.k (value_of a.x) a.trail.now a.from a.buffer.now a.at c.walk_length-back.result =
-      record { piece = c.requires.2; room = c.requires.3; back = c.walk_length-back.ensures } in
+    record { piece = c.requires.2; room = c.requires.3; back = c.walk_length-back.ensures } in
     omega (arith, fits_open y c.if-trail-stop-eq-CLOSED.false c.walk_length-front.ensures, c.well_formed)
 
 pub copy_walk-requires-2 : goal.copy_walk-requires-2
 copy_walk-requires-2 c =
     let a = c.args in
     let y : Legible a.k (value_of a.x) a.trail.now a.from a.buffer.now a.at c.walk_length-back.result =
-      record { piece = c.requires.2; room = c.requires.3; back = c.walk_length-back.ensures } in
-    (
+    record { piece = c.requires.2; room = c.requires.3; back = c.walk_length-back.ensures } in (
       omega (arith, back_inside y),
       back_room y c.if-trail-stop-eq-CLOSED.false c.walk_length-front.ensures c.copy_turned.ensures c.put_letters-2.ensures,
     )
@@ -150,21 +149,21 @@ pub overflow_add-front : goal.overflow_add-front
 overflow_add-front c =
     let a = c.args in
     let y : Legible a.k (value_of a.x) a.trail.now a.from a.buffer.now a.at c.walk_length-back.result =
-      record { piece = c.requires.2; room = c.requires.3; back = c.walk_length-back.ensures } in
+    record { piece = c.requires.2; room = c.requires.3; back = c.walk_length-back.ensures } in
     omega (arith, fits_open y c.if-trail-stop-eq-CLOSED.false c.walk_length-front.ensures, c.well_formed)
 
 pub overflow_add-front-2 : goal.overflow_add-front-2
 overflow_add-front-2 c =
     let a = c.args in
     let y : Legible a.k (value_of a.x) a.trail.now a.from a.buffer.now a.at c.walk_length-back.result =
-      record { piece = c.requires.2; room = c.requires.3; back = c.walk_length-back.ensures } in
+    record { piece = c.requires.2; room = c.requires.3; back = c.walk_length-back.ensures } in
     omega (arith, fits_open y c.if-trail-stop-eq-CLOSED.false c.walk_length-front.ensures, c.well_formed)
 
 pub canonicalize_part-requires-2 : goal.canonicalize_part-requires-2
 canonicalize_part-requires-2 c =
     let a = c.args in
     let y : Legible a.k (value_of a.x) a.trail.now a.from a.buffer.now a.at c.walk_length-back.result =
-      record { piece = c.requires.2; room = c.requires.3; back = c.walk_length-back.ensures } in
+    record { piece = c.requires.2; room = c.requires.3; back = c.walk_length-back.ensures } in
     whole_open y c.if-trail-stop-eq-CLOSED.false c.walk_length-front.ensures c.copy_turned.ensures
     c.put_letters-2.ensures c.copy_walk-2.ensures
 
@@ -172,34 +171,34 @@ pub overflow_add-result-2 : goal.overflow_add-result-2
 overflow_add-result-2 c =
     let a = c.args in
     let y : Legible a.k (value_of a.x) a.trail.now a.from a.buffer.now a.at c.walk_length-back.result =
-      record { piece = c.requires.2; room = c.requires.3; back = c.walk_length-back.ensures } in
+    record { piece = c.requires.2; room = c.requires.3; back = c.walk_length-back.ensures } in
     omega (arith, fits_open y c.if-trail-stop-eq-CLOSED.false c.walk_length-front.ensures, c.well_formed)
 
 pub overflow_add-result-3 : goal.overflow_add-result-3
 overflow_add-result-3 c =
     let a = c.args in
     let y : Legible a.k (value_of a.x) a.trail.now a.from a.buffer.now a.at c.walk_length-back.result =
-      record { piece = c.requires.2; room = c.requires.3; back = c.walk_length-back.ensures } in
+    record { piece = c.requires.2; room = c.requires.3; back = c.walk_length-back.ensures } in
     omega (arith, fits_open y c.if-trail-stop-eq-CLOSED.false c.walk_length-front.ensures, c.well_formed)
 
 pub overflow_add-result-4 : goal.overflow_add-result-4
 overflow_add-result-4 c =
     let a = c.args in
     let y : Legible a.k (value_of a.x) a.trail.now a.from a.buffer.now a.at c.walk_length-back.result =
-      record { piece = c.requires.2; room = c.requires.3; back = c.walk_length-back.ensures } in
+    record { piece = c.requires.2; room = c.requires.3; back = c.walk_length-back.ensures } in
     omega (arith, front_inside y c.if-trail-stop-eq-CLOSED.false c.walk_length-front.ensures, c.well_formed)
 
 pub overflow_add-result-5 : goal.overflow_add-result-5
 overflow_add-result-5 c =
     let a = c.args in
     let y : Legible a.k (value_of a.x) a.trail.now a.from a.buffer.now a.at c.walk_length-back.result =
-      record { piece = c.requires.2; room = c.requires.3; back = c.walk_length-back.ensures } in
+    record { piece = c.requires.2; room = c.requires.3; back = c.walk_length-back.ensures } in
     omega (arith, front_inside y c.if-trail-stop-eq-CLOSED.false c.walk_length-front.ensures, c.well_formed)
 
 pub returns : goal.returns
 returns c =
     let a = c.args in
     let y : Legible a.k (value_of a.x) a.trail.now a.from a.buffer.now a.at c.walk_length-back.result =
-      record { piece = c.requires.2; room = c.requires.3; back = c.walk_length-back.ensures } in
+    record { piece = c.requires.2; room = c.requires.3; back = c.walk_length-back.ensures } in
     written_open y c.if-trail-stop-eq-CLOSED.false c.walk_length-front.ensures c.copy_turned.ensures
     c.put_letters-2.ensures c.copy_walk-2.ensures c.canonicalize_part-2.ensures

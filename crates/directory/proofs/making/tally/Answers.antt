@@ -16,21 +16,21 @@ pub overflow_add-t : goal.overflow_add-t
 overflow_add-t c =
     let a = c.args in
     let room : c.slot_of-t.result + 1 < length c.loop-i.directory =
-      omega (arith, c.slot_of-t.ensures, slot_lt a.b a.k (key a.keys.now c.loop-i.i), c.requires.3, c.loop-i.invariant.1) in
+    omega (arith, c.slot_of-t.ensures, slot_lt a.b a.k (key a.keys.now c.loop-i.i), c.requires.3, c.loop-i.invariant.1) in
     search rules
 
 pub offset_bounds-directory-t : goal.offset_bounds-directory-t
 offset_bounds-directory-t c =
     let a = c.args in
     let room : c.slot_of-t.result + 1 < length c.loop-i.directory =
-      omega (arith, c.slot_of-t.ensures, slot_lt a.b a.k (key a.keys.now c.loop-i.i), c.requires.3, c.loop-i.invariant.1) in
+    omega (arith, c.slot_of-t.ensures, slot_lt a.b a.k (key a.keys.now c.loop-i.i), c.requires.3, c.loop-i.invariant.1) in
     search rules
 
 pub bounds-directory-t : goal.bounds-directory-t
 bounds-directory-t c =
     let a = c.args in
     let room : c.slot_of-t.result + 1 < length c.loop-i.directory =
-      omega (arith, c.slot_of-t.ensures, slot_lt a.b a.k (key a.keys.now c.loop-i.i), c.requires.3, c.loop-i.invariant.1) in
+    omega (arith, c.slot_of-t.ensures, slot_lt a.b a.k (key a.keys.now c.loop-i.i), c.requires.3, c.loop-i.invariant.1) in
     search rules
 
 pub loop-i-preserved : goal.loop-i-preserved

@@ -115,9 +115,9 @@ returns-then-i-j-2 c =
     let a = c.args in
     let u : (length a.s.now ≤ h.j) ⊎ (length a.s.now ≤ h.k) =
     elim c.loop-i-test.branch [
-      then-loop-i-test+then-j-n+else-k-n w ↦ inr (omega (arith, w.if-k-n.false)) |
-      then-loop-i-test+else-j-n w ↦ inl (omega (arith, w.if-j-n.false)) |
-      else-loop-i-test w ↦ inl (omega (arith, w.loop-i-test.false))
+      | then-loop-i-test+then-j-n+else-k-n w ↦ inr (omega (arith, w.if-k-n.false))
+      | then-loop-i-test+else-j-n w ↦ inl (omega (arith, w.if-j-n.false))
+      | else-loop-i-test w ↦ inl (omega (arith, w.loop-i-test.false))
     ] in
     chase_ends a.s.now h.i h.j h.k h.invariant.2 (omega arith) c.if-i-j-2.true u
 
@@ -127,8 +127,8 @@ returns-else-i-j-2 c =
     let a = c.args in
     let u : (length a.s.now ≤ h.i) ⊎ (length a.s.now ≤ h.k) =
     elim c.loop-i-test.branch [
-      then-loop-i-test+then-j-n+else-k-n w ↦ inr (omega (arith, w.if-k-n.false)) |
-      then-loop-i-test+else-j-n w ↦ inl (omega (arith, w.if-j-n.false)) |
-      else-loop-i-test w ↦ inl (omega (arith, w.loop-i-test.false))
+      | then-loop-i-test+then-j-n+else-k-n w ↦ inr (omega (arith, w.if-k-n.false))
+      | then-loop-i-test+else-j-n w ↦ inl (omega (arith, w.if-j-n.false))
+      | else-loop-i-test w ↦ inl (omega (arith, w.loop-i-test.false))
     ] in
     chase_ends a.s.now h.j h.i h.k (chase_turn h.invariant.2) (omega arith) (omega (arith, h.invariant.2.apart)) u

@@ -1,4 +1,3 @@
-use mathlib.Core.Bool.{false}
 use native.Mathlib.Omega.{arith}
 use Rattle.judging.proofs.Lines.{line_start, line_more}
 use Rattle.judging.proofs.places.line_end.Goals as goal

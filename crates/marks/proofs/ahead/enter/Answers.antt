@@ -19,8 +19,8 @@ pub returns : goal.returns
 returns c =
     let a = c.args in
     elim c.if-w-marks.branch [
-      then-w-marks+else-edge_in-eq4+else-mark-eq1 w ↦
+      | then-w-marks+else-edge_in-eq4+else-mark-eq1 w ↦
           enter_next a.marks.now a.anchor a.start a.w a.side a.base w.if-w-marks.true
-          w.edge_in.ensures w.if-edge_in-eq4.false w.if-mark-eq1.false c.inverse.ensures |
-      else-w-marks w ↦ enter_past a.marks.now a.anchor a.start a.w a.side a.base w.if-w-marks.false c.inverse.ensures
+          w.edge_in.ensures w.if-edge_in-eq4.false w.if-mark-eq1.false c.inverse.ensures
+      | else-w-marks w ↦ enter_past a.marks.now a.anchor a.start a.w a.side a.base w.if-w-marks.false c.inverse.ensures
     ]
