@@ -21,7 +21,7 @@ returns-then-d-gt57 c =
 pub returns-then-most-x : goal.returns-then-most-x
 returns-then-most-x c =
     let l = c.loop-i in
-    read_above _ _ l.invariant (omega arith) c.if-d-lt48.false c.if-d-gt57.false c.if-most-x.true
+    read_above _ _ l.invariant (omega arith) c.if-d-lt48.false c.if-d-gt57.false (omega arith)
 
 pub loop-i-preserved : goal.loop-i-preserved
 loop-i-preserved c =
