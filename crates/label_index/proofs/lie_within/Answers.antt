@@ -6,6 +6,7 @@ use Rattle.label_index.proofs.Entries.{within_long, within_at, within_all}
 use borrow.Author.Rules.{rules}
 use Rattle.label_index.proofs.lie_within.Goals as goal
 
+-- A test that cannot hold.
 refuted : (t : Bool) → (t ≡ true → ⊥) → false ≡ t
 refuted true h = absurd (h refl)
 refuted false h = refl

@@ -1,5 +1,4 @@
 -- Each entry passed lies within the labels. Assumes nothing.
--- A test that cannot hold.
 use Prim.Native.Nat.{ℕ, ◌+◌, ◌-◌, ◌≤◌, ◌<◌}
 use lib.ListN.{length, get_or}
 use Rattle.label_index.proofs.lie_within.Given as goal

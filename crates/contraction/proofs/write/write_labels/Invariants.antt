@@ -1,5 +1,4 @@
 -- Each turn passes a vertex by, or writes its label behind those that stand there. Assumes nothing.
--- At an anchor.
 use Prim.Native.Nat.{◌-◌}
 use lib.ListN.{length}
 use Rattle.contraction.proofs.Listed.{Listed}

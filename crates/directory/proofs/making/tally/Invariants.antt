@@ -1,5 +1,4 @@
 -- What is left to tally gives the whole. Assumes nothing.
--- The cell behind the key's slot.
 use mathlib.Core.Path.{◌≡◌}
 use Prim.Native.Nat.{◌-◌, ◌≤◌}
 use lib.ListN.{length, drop}

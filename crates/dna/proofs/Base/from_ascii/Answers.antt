@@ -1,5 +1,4 @@
 -- What is no base is N; of a base the two bits are its code, which is below 4. Assumes nothing.
--- The bits of a byte that passed the test.
 use mathlib.Core.Path.{◌≡◌, sym, ◌∙◌}
 use mathlib.Core.Bool.{Bool, false, not}
 use Prim.Native.Nat.{ℕ}
@@ -10,6 +9,7 @@ use Rattle.dna.specs.Letters.{code_of, is_base, valid_bits}
 use Rattle.dna.proofs.Letters.{no_base, valid_code}
 use Rattle.dna.proofs.Base.from_ascii.Goals as goal
 
+-- The bits of a byte that passed the test.
 code : (b : ℕ) {r : ℕ} {t : Bool} → r ≡ valid_bits b → t ≡ is_base b → not t ≡ false → r ≡ code_of b
 code b v e n = v ∙ valid_code b (sym e ∙ not-false _ n)
 

@@ -11,6 +11,7 @@ use Rattle.dna.proofs.Calls.{writes_none, writes_all}
 use Rattle.dna.proofs.Rotations.{rotation_length, rotation_at, least_to_lem, least_within}
 use Rattle.dna.proofs.labels.minimal_rotation.Goals as goal
 
+-- The least rotation.
 abbrev least : List ℕ → List ℕ
 least s = rotation s (least_start s)
 

@@ -1,5 +1,4 @@
 -- Each turn writes one more cell of the rotation. Assumes nothing.
--- The least rotation.
 use mathlib.Core.Path.{◌≡◌}
 use mathlib.Core.List.{List}
 use Prim.Native.Nat.{ℕ, ◌-◌, ◌≤◌}
@@ -8,6 +7,7 @@ use Rattle.lemmas.proofs.Building.{Built}
 use Rattle.dna.specs.Order.{rotation, least_start}
 use Rattle.dna.proofs.labels.minimal_rotation.Given as goal
 
+-- The least rotation.
 abbrev least : List ℕ → List ℕ
 least s = rotation s (least_start s)
 

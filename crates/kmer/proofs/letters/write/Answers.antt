@@ -11,6 +11,7 @@ use Rattle.kmer.proofs.Spelling.{length_letters, built_quad}
 use borrow.Author.Rules.{rules}
 use Rattle.kmer.proofs.letters.write.Goals as goal
 
+-- The count of cells, written otherwise.
 recount : (text s out : List ℕ) {i j : ℕ} → i ≡ j → Built text s out i → Built text s out j
 recount text s out e b = rw e at b
 

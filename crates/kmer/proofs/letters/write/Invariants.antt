@@ -1,6 +1,5 @@
 -- The leading letters, then with each turn four letters more: whatever slice the leading letters were written into, they are
 -- written there too. Assumes nothing.
--- The count of cells, written otherwise.
 use mathlib.Core.Path.{◌≡◌}
 use mathlib.Core.List.{List}
 use Prim.Native.Nat.{ℕ, ◌+◌, ◌-◌, ◌*◌, ◌/◌, ◌%◌, ◌≤◌}

@@ -1,5 +1,4 @@
 -- `with_neighbour` meets its contract: E adds nothing, and any other is an edge to add. Assumes nothing.
--- What is not E is counted as an edge is.
 use Rattle.std.proofs.Common.{◌≡◌, ◌≢◌, refl, ◌∙◌}
 use Prim.Native.Nat.{ℕ}
 use Rattle.dna.specs.Calls.{code_in}
@@ -10,6 +9,7 @@ use Rattle.state.specs.Parts.{kind_in, neighbour_call}
 use Rattle.state.specs.declared.Side.{Side}
 use Rattle.state.proofs.packing.with_neighbour.Goals as goal
 
+-- What is not E is counted as an edge is.
 present :
     (κ : Kind) (w : ℕ) (s : Side) (b : Base) → b ≢ E → add_edge_call κ w s (code_in b) ≡ neighbour_call κ w s (code_in b)
 present κ w s A k = refl
