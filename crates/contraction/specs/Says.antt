@@ -1,5 +1,5 @@
 -- What contraction answers in document 01's numbers, and what its parts say. Assumes nothing.
-use Rattle.std.specs.Prelude.{ℕ, ◌+◌, ◌^◌, ◌≤◌, ◌<◌, ◌≡◌, Bool, List, [], ◌∷◌, map, length, set, drop}
+use Rattle.std.specs.Prelude.{ℕ, ◌+◌, ◌^◌, ◌≤◌, ◌<◌, ◌≡◌, Bool, Result, Ok, Err, List, [], ◌∷◌, map, length, set, drop}
 use Rattle.std.proofs.Math.Seq.{paste}
 use Rattle.dna.specs.Text.{over}
 use Rattle.dna.specs.Answer.{Answer, gives, refuses}
@@ -10,6 +10,8 @@ use Rattle.sorting.specs.Index.{Spot, sorted_spots}
 use Rattle.state.specs.Counted.{Kind}
 use Rattle.state.specs.declared.Side.{Side}
 use Rattle.graph.specs.declared.Step.{Step}
+use Rattle.table.specs.declared.FitError.{FitError}
+use Rattle.table.specs.declared.FitError.TheVariants as fit
 use Rattle.graph.specs.Table.{table_of}
 use Rattle.graph.specs.Labels.{Run, run}
 use Rattle.graph.specs.Contraction.{Entry, entries, end_to_end, ends_in, Totals, Contracted, finish}
@@ -20,21 +22,27 @@ use Rattle.contraction.specs.declared.Strands.{Strands}
 use Rattle.contraction.specs.declared.Walked.{Walked}
 use Rattle.contraction.specs.declared.Written.{Written}
 use Rattle.contraction.specs.declared.Extracted.{Extracted}
-use Rattle.contraction.specs.declared.ContractAnswer.{ContractAnswer}
-use Rattle.contraction.specs.declared.ContractAnswer.TheVariants as contract
+use Rattle.contraction.specs.declared.Unitigs.{Unitigs}
+use Rattle.contraction.specs.declared.ContractError.{ContractError}
+use Rattle.contraction.specs.declared.ContractError.TheVariants as contract
 
 -- The number of labels and their bases, or a refusal.
-abbrev pub contract_answer : ContractAnswer → Answer Totals
-contract_answer (contract.Contracted labels bases) = gives (record { labels = labels; bases = bases })
-contract_answer (contract.UnsupportedK K) = refuses 1 (K ∷ [])
-contract_answer contract.Unfit = refuses 5 []
-contract_answer contract.WrongCutoff = refuses 15 []
-contract_answer contract.FewMarks = refuses 7 []
-contract_answer contract.MissingVertex = refuses 8 []
-contract_answer contract.NoRoom = refuses 9 []
+abbrev pub contract_answer : Result Unitigs ContractError → Answer Totals
+contract_answer (Ok u) = gives (record { labels = u.labels; bases = u.bases })
+contract_answer (Err (contract.UnsupportedK K)) = refuses 1 (K ∷ [])
+contract_answer (Err contract.Unfit) = refuses 5 []
+contract_answer (Err contract.WrongCutoff) = refuses 15 []
+contract_answer (Err contract.FewMarks) = refuses 7 []
+contract_answer (Err contract.MissingVertex) = refuses 8 []
+contract_answer (Err contract.NoRoom) = refuses 9 []
+
+-- A table that is not fit is refused as `table::fit` refuses it.
+abbrev pub refused_fit : FitError → ContractError
+refused_fit (fit.UnsupportedK K) = contract.UnsupportedK K
+refused_fit fit.Unfit = contract.Unfit
 
 -- A contraction: its answer, and the slices at exit.
-pub record Contracts (r : ContractAnswer) (labels starts lengths marks : List ℕ) (c : Contracted) : Type 0 where
+pub record Contracts (r : Result Unitigs ContractError) (labels starts lengths marks : List ℕ) (c : Contracted) : Type 0 where
   pub answer : contract_answer r ≡ c.answer
   pub labels_after : labels ≡ c.labels
   pub starts_after : starts ≡ c.starts

@@ -1,8 +1,12 @@
 // Contraction: the unitigs of a lent table, written into lent slices.
 #![tactic(auto)]
 
+ghost use Rattle.std.specs.Prelude.{◌≡◌};
+ghost use Rattle.contraction.specs.Says.{refused_fit};
+
 use graph::Step;
 use kmer::Kmer;
+use table::FitError;
 
 mod step;
 mod survey;
@@ -12,16 +16,33 @@ mod write;
 
 pub use unitigs::contract;
 
-// The number of labels and of their bases, or why the table was not contracted.
-#[derive(Clone, Copy)]
-pub enum ContractAnswer {
-    Contracted { labels: usize, bases: usize },
+// The number of labels written, and of their bases.
+#[derive(Clone, Copy, PartialEq, Eq, Debug)]
+pub struct Unitigs {
+    pub labels: usize,
+    pub bases: usize,
+}
+
+// Why a table was not contracted.
+#[derive(Clone, Copy, PartialEq, Eq, Debug)]
+pub enum ContractError {
     UnsupportedK(usize),
     Unfit,
     WrongCutoff,
     FewMarks,
     MissingVertex,
     NoRoom,
+}
+
+impl From<FitError> for ContractError {
+    ghost from_gives = { λ e r. r ≡ refused_fit e };
+
+    fn from(error: FitError) -> ContractError {
+        match error {
+            FitError::Unfit => ContractError::Unfit,
+            FitError::UnsupportedK(k) => ContractError::UnsupportedK(k),
+        }
+    }
 }
 
 // The three bytes of a trail that are no letters. STOPPED stands behind a walk, but behind a Back walk that closed a cycle stands
@@ -46,7 +67,8 @@ struct Strands {
     other: Kmer,
 }
 
-// A label: its length, where its walks end in the trail, and whether a vertex was missing.
+// A label: its length, where its walks end in the trail, and whether a vertex was missing. No Option: a walk that misses a vertex has
+// marked others, and the walks that follow it are as long as if it had stopped.
 #[derive(Clone, Copy)]
 struct Extracted {
     bases: usize,

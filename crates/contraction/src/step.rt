@@ -13,7 +13,6 @@ use dna::Base;
 use graph::{Step, StopReason};
 use kmer::Kmer;
 use state::Side;
-use table::Found;
 
 // Vertex v as a walk sees it that leaves by a side: canonical by Back, its reverse complement by Front.
 pub(crate) fn strands_of(k: usize, keys: &[u64], marks: &[u8], v: usize, side: Side) -> Strands
@@ -23,7 +22,7 @@ pub(crate) fn strands_of(k: usize, keys: &[u64], marks: &[u8], v: usize, side: S
     let x = Kmer {
         words: [keys[2 * v], keys[2 * v + 1]],
     };
-    let y = x.reverse_complement(k).kmer;
+    let y = x.reverse_complement(k).unwrap();
     match side {
         Side::Front => Strands { here: y, other: x },
         Side::Back => Strands { here: x, other: y },
@@ -37,8 +36,8 @@ pub(crate) fn rolled(k: usize, strands: Strands, base: Base) -> Strands
 {
     let here = strands.here;
     let other = strands.other;
-    let next = here.roll_forward(k, base).kmer;
-    let turned = other.roll_backward(k, base.complement()).kmer;
+    let next = here.roll_forward(k, base).unwrap();
+    let turned = other.roll_backward(k, base.complement()).unwrap();
     Strands {
         here: next,
         other: turned,
@@ -61,8 +60,8 @@ fn look(
     ensures { result ≡ look_in k keys.now marks.now anchor start (value_of y) side base }
 {
     match directory::find(k, marks.len(), keys, directory, y) {
-        Found::At(w) => marks::enter(marks, anchor, start, w, side, base),
-        Found::Gap(_) => Step::Missing,
+        Ok(w) => marks::enter(marks, anchor, start, w, side, base),
+        Err(_) => Step::Missing,
     }
 }
 

@@ -8,21 +8,14 @@ ghost use Rattle.contraction.specs.Over.{run_in};
 ghost use Rattle.contraction.specs.Says.{Contracts, Roomy, Lists, Ordered, finish_in};
 ghost use Rattle.contraction.specs.Trail.{Trails};
 
-use super::{ContractAnswer, survey, write};
+use super::{ContractError, Unitigs, survey, write};
 use state::EdgeKind;
-use table::FitAnswer;
 
 // Whether the labels do not fit the buffer, or their entries do not fit one of the two slices.
 fn lacks_room(buffer: usize, starts: usize, lengths: usize, bases: usize, labels: usize) -> bool
     ensures { result ≡ (ltb buffer bases || ltb starts labels || ltb lengths labels) }
 {
-    if buffer < bases {
-        return true;
-    }
-    if starts < labels {
-        return true;
-    }
-    lengths < labels
+    buffer < bases || starts < labels || lengths < labels
 }
 
 // The index put in byte order of the labels that it names. They are canonical and no two are the same, so there is no more to do.
@@ -65,7 +58,7 @@ fn contract_fit(
     starts: &mut [u32],
     lengths: &mut [u32],
     marks: &mut [u8],
-) -> ContractAnswer
+) -> Result<Unitigs, ContractError>
     requires { FitTable k keys.now counts.now marks.old }
     ensures { Contracts result labels.new starts.new lengths.new marks.new (finish_in (kind_of kind) k cutoff (length marks.old) keys.now counts.now labels.old starts.old lengths.old marks.old) }
 {
@@ -74,7 +67,7 @@ fn contract_fit(
     let all = survey::survey(k, keys, marks, &mut trail);
     if all.missing {
         marks::clear(marks);
-        return ContractAnswer::MissingVertex;
+        return Err(ContractError::MissingVertex);
     }
     if lacks_room(
         labels.len(),
@@ -84,13 +77,13 @@ fn contract_fit(
         all.labels,
     ) {
         marks::clear(marks);
-        return ContractAnswer::NoRoom;
+        return Err(ContractError::NoRoom);
     }
     let count = write_list(k, keys, marks, &trail, labels, starts, lengths);
-    ContractAnswer::Contracted {
+    Ok(Unitigs {
         labels: count,
         bases: all.bases,
-    }
+    })
 }
 
 // A fit table of n vertices, for which there are marks.
@@ -105,7 +98,7 @@ fn contract_first(
     starts: &mut [u32],
     lengths: &mut [u32],
     marks: &mut [u8],
-) -> ContractAnswer
+) -> Result<Unitigs, ContractError>
     requires { (n ≤ length marks.old) × FitTable k keys.now counts.now (take n marks.old) }
     ensures { Contracts result labels.new starts.new lengths.new marks.new (finish_in (kind_of kind) k cutoff n keys.now counts.now labels.old starts.old lengths.old marks.old) }
 {
@@ -134,22 +127,17 @@ pub fn contract(
     starts: &mut [u32],
     lengths: &mut [u32],
     marks: &mut [u8],
-) -> ContractAnswer
+) -> Result<Unitigs, ContractError>
     ensures { Contracts result labels.new starts.new lengths.new marks.new (contracted (kind_of kind) k cutoff n keys.now counts.now labels.old starts.old lengths.old marks.old) }
 {
-    match table::fit(kind, k, n, keys, counts) {
-        FitAnswer::UnsupportedK(k) => ContractAnswer::UnsupportedK(k),
-        FitAnswer::Unfit => ContractAnswer::Unfit,
-        FitAnswer::Fit => {
-            if !state::answers_for(kind, cutoff) {
-                return ContractAnswer::WrongCutoff;
-            }
-            if marks.len() < n {
-                return ContractAnswer::FewMarks;
-            }
-            contract_first(
-                kind, k, cutoff, n, keys, counts, labels, starts, lengths, marks,
-            )
-        }
+    table::fit(kind, k, n, keys, counts)?;
+    if !state::answers_for(kind, cutoff) {
+        return Err(ContractError::WrongCutoff);
     }
+    if marks.len() < n {
+        return Err(ContractError::FewMarks);
+    }
+    contract_first(
+        kind, k, cutoff, n, keys, counts, labels, starts, lengths, marks,
+    )
 }
