@@ -10,11 +10,11 @@ use table::FitError;
 
 mod step;
 mod survey;
-mod unitigs;
 mod walk;
+mod whole;
 mod write;
 
-pub use unitigs::contract;
+pub use whole::contract;
 
 // The number of labels written, and of their bases.
 #[derive(Clone, Copy, PartialEq, Eq, Debug)]

@@ -7,7 +7,7 @@ use lib.ListN.{length-replicate}
 use Rattle.marks.proofs.Made.{ready, clean}
 use Rattle.contraction.proofs.Finishing.{missing_vertex, no_room, writable, contracted}
 use Rattle.state.specs.Says.{kind_of}
-use Rattle.contraction.proofs.unitigs.contract_fit.Goals as goal
+use Rattle.contraction.proofs.whole.contract_fit.Goals as goal
 
 pub survey-all-requires : goal.survey-all-requires
 survey-all-requires c =

@@ -3,7 +3,7 @@ use mathlib.Core.Path.{sym}
 use lib.Seq.{length-take-le}
 use Rattle.contraction.proofs.Firsts.{first_marks}
 use Rattle.state.specs.Says.{kind_of}
-use Rattle.contraction.proofs.unitigs.contract_first.Goals as goal
+use Rattle.contraction.proofs.whole.contract_first.Goals as goal
 
 pub slice_bounds-contract_fit-end-2 : goal.slice_bounds-contract_fit-end-2
 slice_bounds-contract_fit-end-2 c = sym (length-take-le c.args.n c.args.marks.now c.requires.0)

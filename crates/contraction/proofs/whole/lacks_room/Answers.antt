@@ -1,6 +1,6 @@
 -- Each test in its order. Assumes nothing.
 use borrow.Author.Tests.{lt-ltb, le-ltb}
-use Rattle.contraction.proofs.unitigs.lacks_room.Goals as goal
+use Rattle.contraction.proofs.whole.lacks_room.Goals as goal
 
 pub returns-then-buffer-bases : goal.returns-then-buffer-bases
 returns-then-buffer-bases c = rw (lt-ltb _ _ c.if-buffer-bases.true)

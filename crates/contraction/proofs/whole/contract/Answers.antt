@@ -2,7 +2,7 @@
 use mathlib.Core.Path.{sym, ◌∙◌}
 use Rattle.contraction.proofs.Refusals.{unsupported, unfit, wrong_cutoff, few_marks, lent_first, goes_on}
 use Rattle.state.specs.Says.{kind_of}
-use Rattle.contraction.proofs.unitigs.contract.Goals as goal
+use Rattle.contraction.proofs.whole.contract.Goals as goal
 
 pub returns-then-not-answers_for : goal.returns-then-not-answers_for
 returns-then-not-answers_for c =

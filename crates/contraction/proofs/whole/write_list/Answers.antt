@@ -1,6 +1,6 @@
 -- The labels are written in anchor order, the marks become 0 and 1, and the index is put in order. Assumes nothing.
 use Rattle.contraction.proofs.Listing.{all_listed}
-use Rattle.contraction.proofs.unitigs.write_list.Goals as goal
+use Rattle.contraction.proofs.whole.write_list.Goals as goal
 
 pub returns : goal.returns
 returns c =
