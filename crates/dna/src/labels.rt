@@ -5,55 +5,46 @@ ghost use Rattle.dna.specs.Letters.{reverse_complement};
 ghost use Rattle.dna.specs.Order.{rotation, least_start};
 ghost use Rattle.dna.specs.Calls.{Writes};
 
-use super::{Written, complement_ascii};
+use super::{NoRoom, complement_ascii};
 
 // A text, written from out's first cell on.
-pub fn copy(text: &[u8], out: &mut [u8]) -> Written
+pub fn copy(text: &[u8], out: &mut [u8]) -> Result<usize, NoRoom>
     ensures { Writes result out.new (fill 9 text.now out.old) }
 {
     let n = text.len();
     if out.len() < n {
-        return Written::NoRoom;
+        return Err(NoRoom);
     }
-    let mut i = 0;
-    while i < n {
-        out[i] = text[i];
-        i += 1;
-    }
-    Written::Done(n)
+    out[..n].copy_from_slice(text);
+    Ok(n)
 }
 
 // The reverse complement of a label, written from out's first cell on; a byte that is no base becomes N.
-pub fn reverse_complement_label(label: &[u8], out: &mut [u8]) -> Written
+pub fn reverse_complement_label(label: &[u8], out: &mut [u8]) -> Result<usize, NoRoom>
     ensures { Writes result out.new (fill 9 (reverse_complement label.now) out.old) }
 {
     let n = label.len();
     if out.len() < n {
-        return Written::NoRoom;
+        return Err(NoRoom);
     }
-    let mut i = 0;
-    while i < n {
-        out[i] = complement_ascii(label[n - 1 - i]);
-        i += 1;
+    for (i, &byte) in label.iter().rev().enumerate() {
+        out[i] = complement_ascii(byte);
     }
-    Written::Done(n)
+    Ok(n)
 }
 
 // The least rotation of a label, written from out's first cell on.
-pub fn minimal_rotation(label: &[u8], out: &mut [u8]) -> Written
+pub fn minimal_rotation(label: &[u8], out: &mut [u8]) -> Result<usize, NoRoom>
     ensures { Writes result out.new (fill 9 (rotation label.now (least_start label.now)) out.old) }
 {
     let n = label.len();
     if out.len() < n {
-        return Written::NoRoom;
+        return Err(NoRoom);
     }
     let start = least_rotation_start(label);
-    let mut at = 0;
-    while at < n {
-        out[at] = label[(start + at) % n];
-        at += 1;
-    }
-    Written::Done(n)
+    out[..n].copy_from_slice(label);
+    out[..n].rotate_left(start);
+    Ok(n)
 }
 
 // The smallest start whose rotation is least: two starts are compared byte by byte, and where they differ the larger one and

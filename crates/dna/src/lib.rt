@@ -1,7 +1,7 @@
 // DNA letters, complements, reversal and rotation.
 #![tactic(auto)]
 
-ghost use Rattle.std.specs.Prelude.{◌≡◌, ltb};
+ghost use Rattle.std.specs.Prelude.{◌≡◌, min, ltb};
 ghost use Rattle.dna.specs.Letters.{code_of, letter_of, complement, is_base, complement_letter, valid_bits};
 ghost use Rattle.dna.specs.Calls.{code_in, bits_where};
 
@@ -10,7 +10,7 @@ mod labels;
 pub use labels::{copy, least_rotation_start, minimal_rotation, reverse_complement_label};
 
 // A base: N is a letter that is none, E is "no base".
-#[derive(Clone, Copy)]
+#[derive(Clone, Copy, PartialEq, Eq, Debug)]
 pub enum Base {
     A,
     C,
@@ -20,19 +20,9 @@ pub enum Base {
     E,
 }
 
-// The two bits of a byte that is a base.
-#[derive(Clone, Copy)]
-pub enum AsciiBits {
-    Bits(u8),
-    NoBase,
-}
-
-// How many bytes of a text were written, or that it does not fit its slice, where nothing was.
-#[derive(Clone, Copy)]
-pub enum Written {
-    Done(usize),
-    NoRoom,
-}
+// A text does not fit its slice, and nothing was written.
+#[derive(Clone, Copy, PartialEq, Eq, Debug)]
+pub struct NoRoom;
 
 // The code of a byte that is no base.
 pub const INVALID_BASE_BITS: u8 = 4;
@@ -64,17 +54,27 @@ impl Base {
         }
     }
 
-    pub fn from_ascii(byte: u8) -> Base
-        ensures { code_in result ≡ code_of byte }
+    // The base of a code; every number above E's is read as E.
+    pub fn from_bits(bits: u8) -> Base
+        ensures { code_in result ≡ min bits 5 }
     {
-        if !is_dna_ascii(byte) {
-            return Base::N;
-        }
-        match valid_ascii_base_bits(byte) {
+        match bits {
             0 => Base::A,
             1 => Base::C,
             2 => Base::G,
-            _ => Base::T,
+            3 => Base::T,
+            4 => Base::N,
+            _ => Base::E,
+        }
+    }
+
+    pub fn from_ascii(byte: u8) -> Base
+        ensures { code_in result ≡ code_of byte }
+    {
+        if is_dna_ascii(byte) {
+            Base::from_bits(valid_ascii_base_bits(byte))
+        } else {
+            Base::N
         }
     }
 
@@ -87,14 +87,7 @@ impl Base {
     pub fn bits(self) -> u8
         ensures { result ≡ code_in self }
     {
-        match self {
-            Base::A => 0,
-            Base::C => 1,
-            Base::G => 2,
-            Base::T => 3,
-            Base::N => 4,
-            Base::E => 5,
-        }
+        self as u8
     }
 }
 
@@ -115,13 +108,11 @@ pub fn complement_ascii(byte: u8) -> u8
     Base::from_ascii(byte).complement().to_ascii()
 }
 
-pub fn ascii_base_bits(byte: u8) -> AsciiBits
+// The two bits of a byte that is a base.
+pub fn ascii_base_bits(byte: u8) -> Option<u8>
     ensures { result ≡ bits_where (λ c. c) byte }
 {
-    if is_dna_ascii(byte) {
-        return AsciiBits::Bits(valid_ascii_base_bits(byte));
-    }
-    AsciiBits::NoBase
+    is_dna_ascii(byte).then_some(valid_ascii_base_bits(byte))
 }
 
 // The code of a byte that the caller knows to be a base; on another byte it means nothing.
@@ -131,11 +122,9 @@ pub fn valid_ascii_base_bits(byte: u8) -> u8
     ((byte >> 2) ^ (byte >> 1)) & 0b11
 }
 
-pub fn ascii_complement_bits(byte: u8) -> AsciiBits
+// The two bits of the complement of a byte that is a base.
+pub fn ascii_complement_bits(byte: u8) -> Option<u8>
     ensures { result ≡ bits_where complement byte }
 {
-    match ascii_base_bits(byte) {
-        AsciiBits::Bits(bits) => AsciiBits::Bits(bits ^ 0b11),
-        AsciiBits::NoBase => AsciiBits::NoBase,
-    }
+    ascii_base_bits(byte).map(|bits| bits ^ 0b11)
 }
