@@ -3,34 +3,26 @@ ghost use Rattle.std.specs.Prelude.{◌≡◌};
 ghost use Rattle.dna.specs.Calls.{code_in};
 ghost use Rattle.state.specs.Counted.{four_bits, edge_at, edge_count, is_branching, is_empty, is_isolated};
 ghost use Rattle.state.specs.Counted.{frequency_call, add_edge_call, update_call};
-ghost use Rattle.state.specs.Says.{word_answer, counting_answer, frequency_answer};
+ghost use Rattle.state.specs.Says.{counting_answer, frequency_answer};
 
-use super::{Counting, EdgeFrequency, FOUR_BITS, Frequency, Side, WordAnswer, packing};
+use super::{EdgeFrequency, FOUR_BITS, NoBase, Side, packing};
 use dna::Base;
-
-// A word taken as counters.
-fn counting(done: WordAnswer) -> Counting
-    ensures { counting_answer result ≡ word_answer done }
-{
-    match done {
-        WordAnswer::Done(packed) => Counting::Done(EdgeFrequency { packed }),
-        WordAnswer::NoBase => Counting::NoBase,
-    }
-}
 
 impl EdgeFrequency {
     // One edge counted; N and E are refused.
-    pub fn add_edge(self, side: Side, edge: Base) -> Counting
+    pub fn add_edge(self, side: Side, edge: Base) -> Result<EdgeFrequency, NoBase>
         ensures { counting_answer result ≡ add_edge_call four_bits self.packed side (code_in edge) }
     {
-        counting(packing::add_edge(FOUR_BITS, self.packed, side, edge))
+        let packed = packing::add_edge(FOUR_BITS, self.packed, side, edge)?;
+        Ok(EdgeFrequency { packed })
     }
 
     // Both neighbours counted; where one of them is N, neither. E is a missing one and adds nothing.
-    pub fn update_edges(self, front: Base, back: Base) -> Counting
+    pub fn update_edges(self, front: Base, back: Base) -> Result<EdgeFrequency, NoBase>
         ensures { counting_answer result ≡ update_call four_bits self.packed (code_in front) (code_in back) }
     {
-        counting(packing::update(FOUR_BITS, self.packed, front, back))
+        let packed = packing::update(FOUR_BITS, self.packed, front, back)?;
+        Ok(EdgeFrequency { packed })
     }
 
     // How many edges a side retains: those counted at least cutoff times.
@@ -48,13 +40,13 @@ impl EdgeFrequency {
     }
 
     // How often a base was counted on a side; bits above 3 are refused.
-    pub fn frequency(self, side: Side, base_bits: u32) -> Frequency
+    pub fn frequency(self, side: Side, base_bits: u32) -> Result<u32, NoBase>
         ensures { frequency_answer result ≡ frequency_call four_bits self.packed side base_bits }
     {
         if base_bits > 3 {
-            return Frequency::NoBase;
+            return Err(NoBase);
         }
-        Frequency::Count(packing::read(FOUR_BITS, self.packed, packing::slot(side, base_bits)))
+        Ok(packing::read(FOUR_BITS, self.packed, packing::slot(side, base_bits)))
     }
 
     pub fn is_branching_side(self, side: Side, cutoff: u32) -> bool
@@ -72,9 +64,6 @@ impl EdgeFrequency {
     pub fn is_isolated(self, cutoff: u32) -> bool
         ensures { result ≡ is_isolated four_bits cutoff self.packed }
     {
-        if !self.is_empty_side(Side::Front, cutoff) {
-            return false;
-        }
-        self.is_empty_side(Side::Back, cutoff)
+        self.is_empty_side(Side::Front, cutoff) && self.is_empty_side(Side::Back, cutoff)
     }
 }

@@ -4,11 +4,11 @@ ghost use Rattle.dna.specs.Calls.{code_in};
 ghost use Rattle.state.specs.Counted.{answers_for, edge_at, update_call};
 ghost use Rattle.state.specs.Says.{kind_of, word_answer};
 
-use super::{EdgeKind, FOUR_BITS, PRESENCE, Side, WordAnswer, packing};
+use super::{EdgeKind, FOUR_BITS, NoBase, PRESENCE, Side, packing};
 use dna::Base;
 
 // Both neighbours counted or marked; where one of them is N, neither. E is a missing one and adds nothing.
-pub fn update_edges(kind: EdgeKind, word: u32, front: Base, back: Base) -> WordAnswer
+pub fn update_edges(kind: EdgeKind, word: u32, front: Base, back: Base) -> Result<u32, NoBase>
     ensures { word_answer result ≡ update_call (kind_of kind) word (code_in front) (code_in back) }
 {
     match kind {
@@ -27,8 +27,8 @@ pub fn answers_for(kind: EdgeKind, cutoff: u32) -> bool
     }
 }
 
-// E for no edge whose count reaches the cutoff, the base for one, N for more. A presence bit counts 0 or 1, whatever the cutoff: who asks
-// for another than 1 has been refused before.
+// E for no edge whose count reaches the cutoff, the base for one, N for more. A presence bit counts 0 or 1, whatever
+// the cutoff: who asks for another than 1 has been refused before.
 pub fn edge_of(kind: EdgeKind, word: u32, side: Side, cutoff: u32) -> Base
     ensures { code_in result ≡ edge_at (kind_of kind) cutoff word side }
 {

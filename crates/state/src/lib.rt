@@ -4,8 +4,6 @@
 ghost use Rattle.std.specs.Prelude.{◌≡◌};
 ghost use Rattle.state.specs.Counted.{opposite};
 
-use dna::Base;
-
 mod counts;
 mod either;
 mod packing;
@@ -14,79 +12,38 @@ mod presence;
 pub use either::{answers_for, edge_of, update_edges};
 
 // Side of a canonical k-mer: Front before its first base, Back behind its last.
-#[derive(Clone, Copy)]
+#[derive(Clone, Copy, PartialEq, Eq, Debug)]
 pub enum Side {
     Front,
     Back,
 }
 
 // What the words of a table keep of edges: counts, or presence bits.
-#[derive(Clone, Copy)]
+#[derive(Clone, Copy, PartialEq, Eq, Debug)]
 pub enum EdgeKind {
     Counted,
     Presence,
 }
 
 // The counters of a vertex's edges: four bits each, A, C, G, T of Front from bit 0 and of Back from bit 16.
-#[derive(Clone, Copy)]
+#[derive(Clone, Copy, PartialEq, Eq, Debug)]
 pub struct EdgeFrequency {
     pub packed: u32,
 }
 
 // The presence bits of a vertex's edges: A, C, G, T of Front at bits 3 to 6 and of Back at bits 7 to 10.
-#[derive(Clone, Copy)]
+#[derive(Clone, Copy, PartialEq, Eq, Debug)]
 pub struct EdgePresence {
     pub flags: u32,
 }
 
-// The counters afterwards, or that an edge was no base, where nothing is counted.
-#[derive(Clone, Copy)]
-pub enum Counting {
-    Done(EdgeFrequency),
-    NoBase,
-}
+// A neighbour that is no base where a base is wanted.
+#[derive(Clone, Copy, PartialEq, Eq, Debug)]
+pub struct NoBase;
 
-// The presence bits afterwards, or that an edge was no base, where none is set.
-#[derive(Clone, Copy)]
-pub enum Marking {
-    Done(EdgePresence),
-    NoBase,
-}
-
-// A vertex's word afterwards, or that an edge was no base, where it stays.
-#[derive(Clone, Copy)]
-pub enum WordAnswer {
-    Done(u32),
-    NoBase,
-}
-
-// A count, or that no base was asked for.
-#[derive(Clone, Copy)]
-pub enum Frequency {
-    Count(u32),
-    NoBase,
-}
-
-// The one edge of a side, or that presence bits do not answer for the cutoff.
-#[derive(Clone, Copy)]
-pub enum EdgeAnswer {
-    Edge(Base),
-    WrongCutoff,
-}
-
-// How many edges a side has, or that presence bits do not answer for the cutoff.
-#[derive(Clone, Copy)]
-pub enum NumberAnswer {
-    Edges(u32),
-    WrongCutoff,
-}
-
-// Whether it is so, or that presence bits do not answer for the cutoff.
-#[derive(Clone, Copy)]
-pub enum TestAnswer {
-    Is(bool),
-    WrongCutoff,
-}
+// A cutoff for which presence bits do not answer.
+#[derive(Clone, Copy, PartialEq, Eq, Debug)]
+pub struct WrongCutoff;
 
 // How many bits a counter has, the bit at which the first starts, and the most that one counts.
 #[derive(Clone, Copy)]

@@ -5,7 +5,7 @@ ghost use Rattle.state.specs.Counted.{slot_of, count, raise, edge_at, add_edge_c
 ghost use Rattle.state.specs.Parts.{kind_in, Holds, kept, neighbour_call, Tallied};
 ghost use Rattle.state.specs.Says.{word_answer};
 
-use super::{Layout, Side, Tally, WordAnswer};
+use super::{Layout, NoBase, Side, Tally};
 use dna::Base;
 
 // The number of a counter, from 0 to 7.
@@ -50,37 +50,35 @@ fn raised(l: Layout, word: u32, slot: u32) -> u32
 }
 
 // One edge counted; N and E are refused.
-pub(crate) fn add_edge(l: Layout, word: u32, side: Side, edge: Base) -> WordAnswer
+pub(crate) fn add_edge(l: Layout, word: u32, side: Side, edge: Base) -> Result<u32, NoBase>
     requires { Holds l }
     ensures { word_answer result ≡ add_edge_call (kind_in l) word side (code_in edge) }
 {
     let bits = edge.bits() as u32;
     if bits > 3 {
-        return WordAnswer::NoBase;
+        return Err(NoBase);
     }
-    WordAnswer::Done(raised(l, word, slot(side, bits)))
+    Ok(raised(l, word, slot(side, bits)))
 }
 
 // A neighbour counted on its side; a missing one, which is E, adds nothing, and N is refused.
-fn with_neighbour(l: Layout, word: u32, side: Side, edge: Base) -> WordAnswer
+fn with_neighbour(l: Layout, word: u32, side: Side, edge: Base) -> Result<u32, NoBase>
     requires { Holds l }
     ensures { word_answer result ≡ neighbour_call (kind_in l) word side (code_in edge) }
 {
     match edge {
-        Base::E => WordAnswer::Done(word),
+        Base::E => Ok(word),
         _ => add_edge(l, word, side, edge),
     }
 }
 
 // Both neighbours counted; where one of them is N, neither.
-pub(crate) fn update(l: Layout, word: u32, front: Base, back: Base) -> WordAnswer
+pub(crate) fn update(l: Layout, word: u32, front: Base, back: Base) -> Result<u32, NoBase>
     requires { Holds l }
     ensures { word_answer result ≡ update_call (kind_in l) word (code_in front) (code_in back) }
 {
-    match with_neighbour(l, word, Side::Front, front) {
-        WordAnswer::Done(now) => with_neighbour(l, now, Side::Back, back),
-        WordAnswer::NoBase => WordAnswer::NoBase,
-    }
+    let now = with_neighbour(l, word, Side::Front, front)?;
+    with_neighbour(l, now, Side::Back, back)
 }
 
 // 1 where a side retains a base's edge, else 0.
