@@ -1,5 +1,6 @@
 -- What adding answers in document 01's numbers, and what its parts say. Assumes nothing.
 use Rattle.std.specs.Prelude.{ℕ, suc, ◌+◌, ◌/◌, ◌%◌, ◌^◌, ◌≤◌, ◌<◌, ◌≡◌, Bool, true, false, cond, List, [], ◌∷◌, eqb, length, get_or}
+use Rattle.std.specs.Prelude.{Option, Some, None, Result, Ok, Err}
 use Rattle.std.specs.Bool.{beq}
 use Rattle.dna.specs.Answer.{Answer, gives, refuses}
 use Rattle.kmer.specs.Kmer.{ok_k, canon, is_canon}
@@ -10,19 +11,20 @@ use Rattle.graph.specs.Table.{keys_of, fit, fit_for, fit_from, rank}
 use Rattle.graph.specs.Sightings.{Rule, same_canonical, reversed, window, windows}
 use Rattle.graph.specs.Adding.{Edges, Added}
 use Rattle.graph.specs.Several.{Several}
-use Rattle.table.specs.declared.JoinAnswer.{JoinAnswer}
-use Rattle.table.specs.declared.JoinAnswer.TheVariants as join
+use Rattle.table.specs.declared.FitError.{FitError}
+use Rattle.table.specs.declared.FitError.TheVariants as fit
+use Rattle.table.specs.declared.JoinError.{JoinError}
+use Rattle.table.specs.declared.JoinError.TheVariants as join
 use Rattle.keysort.specs.Rows.{key_at}
 use Rattle.adding.specs.Batch.{code_at}
-use Rattle.adding.specs.declared.Bad.{Bad}
-use Rattle.adding.specs.declared.Bad.TheVariants as bad
 use Rattle.adding.specs.declared.Seen.{Seen}
 use Rattle.adding.specs.declared.Mode.{Mode}
 use Rattle.adding.specs.declared.Mode.TheVariants as mode
-use Rattle.adding.specs.declared.AddAnswer.{AddAnswer}
-use Rattle.adding.specs.declared.AddAnswer.TheVariants as add
-use Rattle.adding.specs.declared.LabelsAnswer.{LabelsAnswer}
-use Rattle.adding.specs.declared.LabelsAnswer.TheVariants as labels
+use Rattle.adding.specs.declared.Addition.{Addition}
+use Rattle.adding.specs.declared.AddError.{AddError}
+use Rattle.adding.specs.declared.AddError.TheVariants as add
+use Rattle.adding.specs.declared.Additions.{Additions}
+use Rattle.adding.specs.declared.OutOfText.{OutOfText}
 
 -- The rule for equal neighbours that a mode names: document 01's, and document 02's.
 abbrev pub rule_of : Mode → Rule
@@ -30,41 +32,45 @@ rule_of mode.SameCanonical = same_canonical
 rule_of mode.Reversed = reversed
 
 -- The edges and the number stored afterwards, or a refusal.
-abbrev pub add_answer : AddAnswer → Answer Edges
-add_answer (add.Added e n) = gives (record { edges = e; stored = n })
-add_answer (add.UnsupportedK K) = refuses 1 (K ∷ [])
-add_answer (add.InvalidBase place byte) = refuses 3 (place ∷ byte ∷ [])
-add_answer (add.TooLong n) = refuses 4 (n ∷ [])
-add_answer add.Unfit = refuses 5 []
-add_answer add.Full = refuses 6 []
+abbrev pub add_answer : Result Addition AddError → Answer Edges
+add_answer (Ok a) = gives (record { edges = a.edges; stored = a.stored })
+add_answer (Err (add.UnsupportedK K)) = refuses 1 (K ∷ [])
+add_answer (Err (add.InvalidBase place byte)) = refuses 3 (place ∷ byte ∷ [])
+add_answer (Err (add.TooLong n)) = refuses 4 (n ∷ [])
+add_answer (Err add.Unfit) = refuses 5 []
+add_answer (Err add.Full) = refuses 6 []
 
--- The answer once the new vertices are put in, or why they are not.
-abbrev pub joined_answer : ℕ → JoinAnswer → AddAnswer
-joined_answer edges (join.Joined n) = add.Added edges n
-joined_answer edges join.Full = add.Full
-joined_answer edges join.Misplaced = add.Unfit
+-- Why a table is refused, as a refusal of the label that is to be added to it.
+abbrev pub of_fit : FitError → AddError
+of_fit fit.Unfit = add.Unfit
+of_fit (fit.UnsupportedK K) = add.UnsupportedK K
+
+-- The same of new vertices that are not put in.
+abbrev pub of_join : JoinError → AddError
+of_join join.Full = add.Full
+of_join join.Misplaced = add.Unfit
 
 -- A call that adds: its answer, and the slices at exit.
-pub record Adds (r : AddAnswer) (keys counts : List ℕ) (a : Added) : Type 0 where
+pub record Adds (r : Result Addition AddError) (keys counts : List ℕ) (a : Added) : Type 0 where
   pub answer : add_answer r ≡ a.answer
   pub keys_after : keys ≡ a.keys
   pub counts_after : counts ≡ a.counts
 
 -- Many labels: how many were added, the number stored and the last answer; or a refusal before the first, with n stored.
-abbrev pub labels_say : ℕ → LabelsAnswer → Several → Type 0
-labels_say n (labels.Tried m stored last) s = (m ≡ s.labels) × (stored ≡ s.stored) × (add_answer last ≡ s.answer)
-labels_say n labels.OutOfText s = (0 ≡ s.labels) × (n ≡ s.stored) × (refuses 12 [] ≡ s.answer)
+abbrev pub labels_say : ℕ → Result Additions OutOfText → Several → Type 0
+labels_say n (Ok a) s = (a.labels ≡ s.labels) × (a.stored ≡ s.stored) × (add_answer a.last ≡ s.answer)
+labels_say n (Err e) s = (0 ≡ s.labels) × (n ≡ s.stored) × (refuses 12 [] ≡ s.answer)
 
 -- A call that adds many to n vertices: what it says, and the slices at exit.
-pub record AddsLabels (n : ℕ) (r : LabelsAnswer) (keys counts : List ℕ) (s : Several) : Type 0 where
+pub record AddsLabels (n : ℕ) (r : Result Additions OutOfText) (keys counts : List ℕ) (s : Several) : Type 0 where
   pub says : labels_say n r s
   pub keys_after : keys ≡ s.keys
   pub counts_after : counts ≡ s.counts
 
 -- The place and the byte that are no base; nothing where all are.
-abbrev pub place_in : Bad → List ℕ
-place_in bad.Nowhere = []
-place_in (bad.At place byte) = place ∷ byte ∷ []
+abbrev pub place_in : Option (ℕ × ℕ) → List ℕ
+place_in None = []
+place_in (Some (place, byte)) = place ∷ byte ∷ []
 
 -- A K in its range, and a label of at least K bases and at most 4,096.
 pub record Given (K : ℕ) (label : List ℕ) : Type 0 where

@@ -9,7 +9,6 @@ ghost use Rattle.adding.specs.Says.{rule_of, Spare};
 
 use super::{Mode, Seen, windows};
 use kmer::Kmer;
-use table::Found;
 
 // A k-mer's words put into a slice.
 pub(crate) fn put_key(keys: &mut [u64], at: usize, x: Kmer)
@@ -26,12 +25,12 @@ fn cells_for(n: usize, windows: usize) -> usize
     ensures { result ≤ 4097 }
 {
     if 48 * windows < n {
-        return 0;
+        0
+    } else if windows < 512 {
+        1025
+    } else {
+        4097
     }
-    if windows < 512 {
-        return 1025;
-    }
-    4097
 }
 
 // Window by window, by a directory of whatever content.
@@ -55,29 +54,22 @@ fn look_up(
         kmer: Kmer::zero(),
         straight: true,
     };
-    let mut o = 0;
     let end = label.len() - k + 1;
-    while o < end {
+    for o in 0..end {
         let seen = windows::see(k, label, o);
         let code = windows::code_of(mode, k, label, o, previous, seen);
-        let x = seen.kmer;
-        match directory::find(k, n, keys, directory, x) {
-            Found::At(i) => {
-                notes[o] = code;
-                places[o] = i as u32;
-                previous = seen;
-                o += 1;
-            }
-            Found::Gap(i) => {
-                notes[o] = code + 64;
-                places[o] = i as u32;
-                put_key(new_keys, new, x);
+        let (note, place) = match directory::find(k, n, keys, directory, seen.kmer) {
+            Ok(i) => (code, i),
+            Err(i) => {
+                put_key(new_keys, new, seen.kmer);
                 offsets[new] = o as u32;
                 new += 1;
-                previous = seen;
-                o += 1;
+                (code + 64, i)
             }
-        }
+        };
+        notes[o] = note;
+        places[o] = place as u32;
+        previous = seen;
     }
     new
 }

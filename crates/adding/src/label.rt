@@ -6,24 +6,21 @@ ghost use Rattle.graph.specs.Table.{keys_of};
 ghost use Rattle.graph.specs.Sightings.{windows};
 ghost use Rattle.graph.specs.Adding.{add_label, add_bases};
 ghost use Rattle.adding.specs.Batch.{Looked, Grouped, sorted_new};
-ghost use Rattle.adding.specs.Says.{rule_of, Addable, Spare, Ready, Roomy, Adds, joined_answer, place_in};
+ghost use Rattle.adding.specs.Says.{rule_of, Addable, Spare, Ready, Roomy, Adds, place_in};
 
-use super::{AddAnswer, Bad, Mode, counting, gathering};
+use super::{AddError, Addition, Mode, counting, gathering};
 use state::EdgeKind;
-use table::{FitAnswer, JoinAnswer};
 
-fn first_bad(s: &[u8]) -> Bad
+// A label's first byte that is no base, and its place.
+fn first_bad(s: &[u8]) -> Option<(usize, u8)>
     ensures { place_in result ≡ first_bad 0 s.now }
 {
-    let mut i = 0;
-    while i < s.len() {
-        let b = s[i];
-        if !dna::is_dna_ascii(b) {
-            return Bad::At { place: i, byte: b };
+    for (place, &byte) in s.iter().enumerate() {
+        if !dna::is_dna_ascii(byte) {
+            return Some((place, byte));
         }
-        i += 1;
     }
-    Bad::Nowhere
+    None
 }
 
 // The new k-mers of a label made vertices by themselves, sorted and counted, and how many they are; of each window what is noted
@@ -52,16 +49,6 @@ fn make_vertices(
     )
 }
 
-fn joined_answer(edges: usize, done: JoinAnswer) -> AddAnswer
-    ensures { result ≡ joined_answer edges done }
-{
-    match done {
-        JoinAnswer::Joined(stored) => AddAnswer::Added { edges, stored },
-        JoinAnswer::Full => AddAnswer::Full,
-        JoinAnswer::Misplaced => AddAnswer::Unfit,
-    }
-}
-
 // A label of bases: if its new vertices have room, the windows of the others are counted where they stand, and the new ones are
 // put in all at once.
 fn add_with(
@@ -78,7 +65,7 @@ fn add_with(
     new_keys: &mut [u64],
     new_places: &mut [u32],
     new_counts: &mut [u32],
-) -> AddAnswer
+) -> Result<Addition, AddError>
     requires { Roomy k label.now n keys.old counts.old notes.old places.old offsets.old new_keys.old new_places.old new_counts.old }
     ensures { Adds result keys.new counts.new (add_bases (kind_of kind) (rule_of mode) k n keys.old counts.old label.now []) }
 {
@@ -87,15 +74,15 @@ fn add_with(
         kind, mode, k, label, n, keys, notes, places, offsets, new_keys, new_places, new_counts,
     );
     if table::capacity(keys, counts) < n + new {
-        return AddAnswer::Full;
+        return Err(AddError::Full);
     }
     counting::raise_known(kind, edges + 1, notes, places, counts);
-    let done = table::join(n, keys, counts, new, new_places, new_keys, new_counts);
-    joined_answer(edges, done)
+    let stored = table::join(n, keys, counts, new, new_places, new_keys, new_counts)?;
+    Ok(Addition { edges, stored })
 }
 
-// At most 512 windows: room for more would take longer to clear than to use.
-fn add_short(
+// Added by slices for so many windows, and for the two words of the k-mer of each.
+fn add_in<const WINDOWS: usize, const WORDS: usize>(
     kind: EdgeKind,
     mode: Mode,
     k: usize,
@@ -103,16 +90,16 @@ fn add_short(
     keys: &mut [u64],
     counts: &mut [u32],
     label: &[u8],
-) -> AddAnswer
-    requires { Addable k label.now n keys.old counts.old × (windows k label.now ≤ 512) }
+) -> Result<Addition, AddError>
+    requires { Addable k label.now n keys.old counts.old × (windows k label.now ≤ WINDOWS) × (WINDOWS ≤ WORDS / 2) }
     ensures { Adds result keys.new counts.new (add_bases (kind_of kind) (rule_of mode) k n keys.old counts.old label.now []) }
 {
-    let mut notes = [0u8; 512];
-    let mut places = [0u32; 512];
-    let mut offsets = [0u32; 512];
-    let mut new_keys = [0u64; 1024];
-    let mut new_places = [0u32; 512];
-    let mut new_counts = [0u32; 512];
+    let mut notes = [0u8; WINDOWS];
+    let mut places = [0u32; WINDOWS];
+    let mut offsets = [0u32; WINDOWS];
+    let mut new_keys = [0u64; WORDS];
+    let mut new_places = [0u32; WINDOWS];
+    let mut new_counts = [0u32; WINDOWS];
     add_with(
         kind,
         mode,
@@ -130,41 +117,7 @@ fn add_short(
     )
 }
 
-fn add_long(
-    kind: EdgeKind,
-    mode: Mode,
-    k: usize,
-    n: usize,
-    keys: &mut [u64],
-    counts: &mut [u32],
-    label: &[u8],
-) -> AddAnswer
-    requires { Addable k label.now n keys.old counts.old }
-    ensures { Adds result keys.new counts.new (add_bases (kind_of kind) (rule_of mode) k n keys.old counts.old label.now []) }
-{
-    let mut notes = [0u8; 4096];
-    let mut places = [0u32; 4096];
-    let mut offsets = [0u32; 4096];
-    let mut new_keys = [0u64; 8192];
-    let mut new_places = [0u32; 4096];
-    let mut new_counts = [0u32; 4096];
-    add_with(
-        kind,
-        mode,
-        k,
-        n,
-        keys,
-        counts,
-        label,
-        &mut notes,
-        &mut places,
-        &mut offsets,
-        &mut new_keys,
-        &mut new_places,
-        &mut new_counts,
-    )
-}
-
+// For few windows by few: more would take longer to clear than to use.
 fn add_bases(
     kind: EdgeKind,
     mode: Mode,
@@ -173,14 +126,15 @@ fn add_bases(
     keys: &mut [u64],
     counts: &mut [u32],
     label: &[u8],
-) -> AddAnswer
+) -> Result<Addition, AddError>
     requires { Addable k label.now n keys.old counts.old }
     ensures { Adds result keys.new counts.new (add_bases (kind_of kind) (rule_of mode) k n keys.old counts.old label.now []) }
 {
     if label.len() - k < 512 {
-        return add_short(kind, mode, k, n, keys, counts, label);
+        add_in::<512, 1024>(kind, mode, k, n, keys, counts, label)
+    } else {
+        add_in::<4096, 8192>(kind, mode, k, n, keys, counts, label)
     }
-    add_long(kind, mode, k, n, keys, counts, label)
 }
 
 // The label tested whole, then added, to a table that is known to be fit: refusal 4, a label shorter than K, 3, 6.
@@ -192,23 +146,23 @@ pub(crate) fn add_to_fit(
     keys: &mut [u64],
     counts: &mut [u32],
     label: &[u8],
-) -> AddAnswer
+) -> Result<Addition, AddError>
     requires { Ready (kind_of kind) k n keys.old counts.old }
     ensures { Adds result keys.new counts.new (add_label (kind_of kind) (rule_of mode) k n keys.old counts.old label.now) }
 {
     if 4096 < label.len() {
-        return AddAnswer::TooLong(label.len());
+        return Err(AddError::TooLong(label.len()));
     }
     if label.len() < k {
-        return AddAnswer::Added {
+        return Ok(Addition {
             edges: 0,
             stored: n,
-        };
+        });
     }
-    match first_bad(label) {
-        Bad::At { place, byte } => AddAnswer::InvalidBase { place, byte },
-        Bad::Nowhere => add_bases(kind, mode, k, n, keys, counts, label),
+    if let Some((place, byte)) = first_bad(label) {
+        return Err(AddError::InvalidBase { place, byte });
     }
+    add_bases(kind, mode, k, n, keys, counts, label)
 }
 
 // Refusals 1 and 5 before those of the label.
@@ -220,12 +174,9 @@ pub fn add_label(
     keys: &mut [u64],
     counts: &mut [u32],
     label: &[u8],
-) -> AddAnswer
+) -> Result<Addition, AddError>
     ensures { Adds result keys.new counts.new (add_label (kind_of kind) (rule_of mode) k n keys.old counts.old label.now) }
 {
-    match table::fit(kind, k, n, keys, counts) {
-        FitAnswer::UnsupportedK(k) => AddAnswer::UnsupportedK(k),
-        FitAnswer::Unfit => AddAnswer::Unfit,
-        FitAnswer::Fit => add_to_fit(kind, mode, k, n, keys, counts, label),
-    }
+    table::fit(kind, k, n, keys, counts)?;
+    add_to_fit(kind, mode, k, n, keys, counts, label)
 }

@@ -6,7 +6,7 @@ ghost use Rattle.graph.specs.Adding.{add_label};
 ghost use Rattle.graph.specs.Several.{untried, add_each, add_labels};
 ghost use Rattle.adding.specs.Says.{rule_of, Ready, Adds, AddsLabels};
 
-use super::{AddAnswer, LabelsAnswer, Mode, label};
+use super::{AddError, Addition, Additions, Mode, OutOfText, label};
 use state::EdgeKind;
 
 // A label added to a table that is known to be fit, or not known yet.
@@ -19,14 +19,15 @@ fn add_next(
     keys: &mut [u64],
     counts: &mut [u32],
     label: &[u8],
-) -> AddAnswer
+) -> Result<Addition, AddError>
     requires { is_fit ≡ true → Ready (kind_of kind) k n keys.old counts.old }
     ensures { Adds result keys.new counts.new (add_label (kind_of kind) (rule_of mode) k n keys.old counts.old label.now) }
 {
     if is_fit {
-        return label::add_to_fit(kind, mode, k, n, keys, counts, label);
+        label::add_to_fit(kind, mode, k, n, keys, counts, label)
+    } else {
+        label::add_label(kind, mode, k, n, keys, counts, label)
     }
-    label::add_label(kind, mode, k, n, keys, counts, label)
 }
 
 // The labels of an index that lies within its text. A label that was added leaves a fit table.
@@ -41,14 +42,15 @@ fn add_each(
     starts: &[u32],
     lengths: &[u32],
     count: usize,
-) -> LabelsAnswer
+) -> Additions
     requires { within text.now count starts.now lengths.now ≡ true }
-    ensures { AddsLabels n result keys.new counts.new (add_each (kind_of kind) (rule_of mode) k (untried n keys.old counts.old) (listed count text.now starts.now lengths.now)) }
+    ensures { AddsLabels n (Ok result) keys.new counts.new (add_each (kind_of kind) (rule_of mode) k (untried n keys.old counts.old) (listed count text.now starts.now lengths.now)) }
 {
-    let mut edges = 0;
-    let mut stored = n;
-    let mut i = 0;
-    while i < count {
+    let mut last = Addition {
+        edges: 0,
+        stored: n,
+    };
+    for i in 0..count {
         let start = starts[i] as usize;
         let end = start + lengths[i] as usize;
         let answer = add_next(
@@ -56,33 +58,24 @@ fn add_each(
             kind,
             mode,
             k,
-            stored,
+            last.stored,
             keys,
             counts,
             &text[start..end],
         );
-        match answer {
-            AddAnswer::Added {
-                edges: e,
-                stored: m,
-            } => {
-                edges = e;
-                stored = m;
-                i += 1;
-            }
-            _ => {
-                return LabelsAnswer::Tried {
-                    labels: i,
-                    stored,
-                    last: answer,
-                };
-            }
-        }
+        let Ok(added) = answer else {
+            return Additions {
+                labels: i,
+                stored: last.stored,
+                last: answer,
+            };
+        };
+        last = added;
     }
-    LabelsAnswer::Tried {
-        labels: i,
-        stored,
-        last: AddAnswer::Added { edges, stored },
+    Additions {
+        labels: count,
+        stored: last.stored,
+        last: Ok(last),
     }
 }
 
@@ -98,11 +91,11 @@ pub fn add_labels(
     starts: &[u32],
     lengths: &[u32],
     count: usize,
-) -> LabelsAnswer
+) -> Result<Additions, OutOfText>
     ensures { AddsLabels n result keys.new counts.new (add_labels (kind_of kind) (rule_of mode) k n keys.old counts.old text.now starts.now lengths.now count) }
 {
     if !label_index::lie_within(text, starts, lengths, count) {
-        return LabelsAnswer::OutOfText;
+        return Err(OutOfText);
     }
-    add_each(kind, mode, k, n, keys, counts, text, starts, lengths, count)
+    Ok(add_each(kind, mode, k, n, keys, counts, text, starts, lengths, count))
 }

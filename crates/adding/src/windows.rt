@@ -14,8 +14,8 @@ pub(crate) fn see(k: usize, label: &[u8], o: usize) -> Seen
     ensures { Sees k label.now o result }
 {
     let e = o + k;
-    let x = Kmer::from_ascii(k, &label[o..e]).kmer;
-    let c = x.canonical(k).kmer;
+    let x = Kmer::from_ascii(k, &label[o..e]).unwrap();
+    let c = x.canonical(k).unwrap();
     Seen {
         kmer: c,
         straight: !c.is_less(x),
@@ -29,12 +29,7 @@ fn skips(mode: Mode, previous: Seen, here: Seen) -> bool
     let same = previous.kmer.is_same(here.kmer);
     match mode {
         Mode::SameCanonical => same,
-        Mode::Reversed => {
-            if previous.straight == here.straight {
-                return false;
-            }
-            same
-        }
+        Mode::Reversed => previous.straight != here.straight && same,
     }
 }
 
@@ -43,13 +38,11 @@ fn before_of(mode: Mode, k: usize, label: &[u8], o: usize, previous: Seen, here:
     requires { Given k label.now × (o + k ≤ length label.now) × Follows k label.now o previous here }
     ensures { result ≡ predecessor (rule_of mode) k label.now o }
 {
-    if o == 0 {
-        return 5;
+    if o == 0 || skips(mode, previous, here) {
+        5
+    } else {
+        dna::valid_ascii_base_bits(label[o - 1])
     }
-    if skips(mode, previous, here) {
-        return 5;
-    }
-    dna::valid_ascii_base_bits(label[o - 1])
 }
 
 // The base after window o, E where there is none.
@@ -57,11 +50,10 @@ fn after_of(k: usize, label: &[u8], o: usize) -> u8
     requires { Given k label.now × (o + k ≤ length label.now) }
     ensures { result ≡ successor k label.now o }
 {
-    let e = o + k;
-    if e < label.len() {
-        return dna::valid_ascii_base_bits(label[e]);
+    match label.get(o + k) {
+        Some(&byte) => dna::valid_ascii_base_bits(byte),
+        None => 5,
     }
-    5
 }
 
 fn other(code: u8) -> u8
@@ -86,7 +78,8 @@ pub(crate) fn code_of(
     let before = before_of(mode, k, label, o, previous, seen);
     let after = after_of(k, label, o);
     if seen.straight {
-        return before + 8 * after;
+        before + 8 * after
+    } else {
+        other(after) + 8 * other(before)
     }
-    other(after) + 8 * other(before)
 }

@@ -3,7 +3,7 @@
 // of document 01 and of Q-1 and Q-3 alone.
 #![tactic(auto)]
 
-use adding::{AddAnswer, Mode};
+use adding::{AddError, Addition, Mode};
 use state::EdgeKind;
 use std::io;
 
@@ -22,25 +22,18 @@ fn name(rt: &impl Print, label: &[u8]) -> io::Result<()> {
     }
 }
 
-// The number stored after a call.
-fn stored_after(answer: AddAnswer, n: usize) -> usize {
+fn show_answer(rt: &impl Print, answer: Result<Addition, AddError>) -> io::Result<()> {
     match answer {
-        AddAnswer::Added { edges: _, stored } => stored,
-        _ => n,
+        Ok(Addition { edges, stored }) => println!(rt; ": edges {edges} stored {stored}"),
+        Err(AddError::UnsupportedK(k)) => println!(rt; ": R1 {k}"),
+        Err(AddError::InvalidBase { place, byte }) => println!(rt; ": R3 {place} {byte}"),
+        Err(AddError::TooLong(length)) => println!(rt; ": R4 {length}"),
+        Err(AddError::Unfit) => println!(rt; ": R5"),
+        Err(AddError::Full) => println!(rt; ": R6"),
     }
 }
 
-fn show_answer(rt: &impl Print, answer: AddAnswer) -> io::Result<()> {
-    match answer {
-        AddAnswer::Added { edges, stored } => println!(rt; ": edges {edges} stored {stored}"),
-        AddAnswer::UnsupportedK(k) => println!(rt; ": R1 {k}"),
-        AddAnswer::InvalidBase { place, byte } => println!(rt; ": R3 {place} {byte}"),
-        AddAnswer::TooLong(length) => println!(rt; ": R4 {length}"),
-        AddAnswer::Unfit => println!(rt; ": R5"),
-        AddAnswer::Full => println!(rt; ": R6"),
-    }
-}
-
+// Answers the number stored afterwards.
 fn add(
     rt: &impl Print,
     kind: EdgeKind,
@@ -55,7 +48,7 @@ fn add(
     name(rt, label)?;
     let answer = adding::add_label(kind, mode, k, n, keys, counts, label);
     show_answer(rt, answer)?;
-    Ok(stored_after(answer, n))
+    Ok(answer.map_or(n, |added| added.stored))
 }
 
 fn show_keys(rt: &impl Print, keys: &[u64]) -> io::Result<()> {
