@@ -1,25 +1,33 @@
 -- What a judgement answers in the documents' numbers, and what its parts say. Assumes nothing.
-use Rattle.std.specs.Prelude.{ℕ, ◌≡◌, cond, ◌||◌, List, [], ◌∷◌, ltb, length}
+use Rattle.std.specs.Prelude.{ℕ, ◌≡◌, cond, ◌||◌, Option, Some, None, Result, Ok, Err, List, [], ◌∷◌, ltb, length}
 use Rattle.dna.specs.Answer.{Answer, gives, refuses}
 use Rattle.graph.specs.Walks.{Ends}
 use Rattle.rules.specs.Verdict.{Verdict, yes, no, first_of, breaks2, lacks, breaks3, breaks4}
 use Rattle.rules.specs.Judging.{Judgement}
-use Rattle.judging.specs.declared.JudgeAnswer.{JudgeAnswer}
-use Rattle.judging.specs.declared.JudgeAnswer.TheVariants as answers
+use Rattle.table.specs.declared.FitError.{FitError}
+use Rattle.table.specs.declared.FitError.TheVariants as fits
+use Rattle.judging.specs.declared.Broken.{Broken}
+use Rattle.judging.specs.declared.JudgeError.{JudgeError}
+use Rattle.judging.specs.declared.JudgeError.TheVariants as errors
 
 -- A verdict, or a refusal.
-abbrev pub judge_answer : JudgeAnswer → Answer Verdict
-judge_answer answers.Passes = gives yes
-judge_answer (answers.Breaks rule label) = gives (no rule label)
-judge_answer (answers.UnsupportedK K) = refuses 1 (K ∷ [])
-judge_answer answers.Unfit = refuses 5 []
-judge_answer answers.WrongCutoff = refuses 15 []
-judge_answer answers.FewMarks = refuses 7 []
-judge_answer answers.EvenK = refuses 16 []
-judge_answer answers.NoList = refuses 17 []
+abbrev pub judge_answer : Result (Option Broken) JudgeError → Answer Verdict
+judge_answer (Ok None) = gives yes
+judge_answer (Ok (Some b)) = gives (no b.rule b.label)
+judge_answer (Err (errors.UnsupportedK K)) = refuses 1 (K ∷ [])
+judge_answer (Err errors.Unfit) = refuses 5 []
+judge_answer (Err errors.WrongCutoff) = refuses 15 []
+judge_answer (Err errors.FewMarks) = refuses 7 []
+judge_answer (Err errors.EvenK) = refuses 16 []
+judge_answer (Err errors.NoList) = refuses 17 []
+
+-- Why a list is not judged over a table that is not fit.
+abbrev pub refused_by : FitError → JudgeError
+refused_by (fits.UnsupportedK K) = errors.UnsupportedK K
+refused_by fits.Unfit = errors.Unfit
 
 -- A judgement: its answer, and the marks at exit.
-pub record Judges (r : JudgeAnswer) (marks : List ℕ) (j : Judgement) : Type 0 where
+pub record Judges (r : Result (Option Broken) JudgeError) (marks : List ℕ) (j : Judgement) : Type 0 where
   pub answer : judge_answer r ≡ j.answer
   pub marks_after : marks ≡ j.marks
 

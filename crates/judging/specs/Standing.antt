@@ -1,5 +1,5 @@
 -- What rules 2 and 3 find of k-mers and labels, and what they leave in the marks. Assumes nothing.
-use Rattle.std.specs.Prelude.{ℕ, ◌+◌, ◌-◌, ◌≤◌, ◌<◌, ◌≡◌, Bool, true, false, cond, not, ◌&&◌, ◌||◌, List, [], ◌∷◌, map, ltb, eqb, length, get_or, set, drop}
+use Rattle.std.specs.Prelude.{ℕ, ◌+◌, ◌-◌, ◌≤◌, ◌<◌, ◌≡◌, Bool, true, false, cond, not, ◌&&◌, ◌||◌, Option, Some, None, Result, Ok, Err, List, [], ◌∷◌, map, ltb, eqb, length, get_or, set, drop}
 use Rattle.dna.specs.Letters.{code_of}
 use Rattle.kmer.specs.Kmer.{canon}
 use Rattle.state.specs.declared.Side.{Side}
@@ -13,12 +13,9 @@ use Rattle.marks.specs.Marks.{ends, visits}
 use Rattle.marks.specs.Ready.{keys_for, Ready}
 use Rattle.rules.specs.Listing.{listing}
 use Rattle.rules.specs.Verdict.{first_of, is_live, exit, bad_step, breaks2, breaks3}
-use Rattle.judging.specs.declared.First.{First}
-use Rattle.judging.specs.declared.First.TheVariants as first
 use Rattle.judging.specs.declared.Tested.{Tested}
 use Rattle.judging.specs.declared.Tested.TheVariants as tested
-use Rattle.judging.specs.declared.Tried.{Tried}
-use Rattle.judging.specs.declared.Tried.TheVariants as tried
+use Rattle.judging.specs.declared.AllPlaced.{AllPlaced}
 use Rattle.judging.specs.Says.{row_from}
 use Rattle.judging.specs.Passing.{labels_in, Finds, Passing}
 
@@ -97,17 +94,19 @@ pub record Stands (K : ℕ) (keys ms label : List ℕ) (r : Tested) (after : Lis
 abbrev pub one_more : ℕ → ℕ → ℕ
 one_more good i = cond (ltb good i) good (good + 1)
 
--- The first label with a misplaced k-mer, or all.
-abbrev pub first_in : Tried → First
-first_in (tried.Misplaced i) = first.Label i
-first_in (tried.Placed labels good) = first.All labels
+-- The first label with a misplaced k-mer, if there is one.
+abbrev pub first_in : Result AllPlaced ℕ → Option ℕ
+first_in (Ok p) = None
+first_in (Err i) = Some i
 
 -- The pass over all labels; where none has a misplaced k-mer all k-mers have stood afterwards, and the first bad step is told.
-pub record Placed (K : ℕ) (keys ms text : List ℕ) (r : Tried) (after : List ℕ) : Type 0 where
+pub record Placed (K : ℕ) (keys ms text : List ℕ) (r : Result AllPlaced ℕ) (after : List ℕ) : Type 0 where
   pub ends_kept : ends after ≡ ends ms
   pub found : Finds (breaks2 K (keys_for ms keys) (ends ms)) (labels_in (listing K text)) (first_in r)
-  pub stood : (n g : ℕ) → r ≡ tried.Placed n g → Stood (keys_for ms keys) after (stands_in K (labels_in (listing K text)))
-  pub stepped : (n g : ℕ) → r ≡ tried.Placed n g → first_of (breaks3 K (keys_for ms keys) (ends ms)) [] (labels_in (listing K text)) ≡ g
+  pub stood : (p : AllPlaced) → r ≡ Ok p → Stood (keys_for ms keys) after (stands_in K (labels_in (listing K text)))
+  pub counted : (p : AllPlaced) → r ≡ Ok p → length (labels_in (listing K text)) ≡ p.labels
+  pub stepped : (p : AllPlaced) → r ≡ Ok p
+      → first_of (breaks3 K (keys_for ms keys) (ends ms)) [] (labels_in (listing K text)) ≡ p.good
 
 -- A vertex is visited or isolated.
 abbrev pub skipped : List ℕ → ℕ → Bool

@@ -7,7 +7,7 @@ ghost use Rattle.marks.specs.Ready.{keys_for, Ready};
 ghost use Rattle.judging.specs.Places.{is_held};
 ghost use Rattle.judging.specs.Passing.{labels_in, Finds};
 
-use super::{First, places, seeing};
+use super::{places, seeing};
 
 // An end of a label is loose.
 pub(crate) fn has_loose_end(
@@ -23,12 +23,8 @@ pub(crate) fn has_loose_end(
 {
     let first = seeing::see_window(k, keys, directory, marks, label, 0);
     let last = seeing::see_window(k, keys, directory, marks, label, label.len() - k);
-    if seeing::is_loose(k, keys, directory, marks, first, last) {
-        return true;
-    }
-    let f = seeing::turned(last);
-    let x = seeing::turned(first);
-    seeing::is_loose(k, keys, directory, marks, f, x)
+    seeing::is_loose(k, keys, directory, marks, first, last)
+        || seeing::is_loose(k, keys, directory, marks, seeing::turned(last), seeing::turned(first))
 }
 
 // The first label with a loose end.
@@ -38,7 +34,7 @@ pub(crate) fn first_loose(
     directory: &[u32],
     marks: &[u8],
     text: &[u8],
-) -> First
+) -> Option<usize>
     requires { Ready k keys.now marks.now × (is_held (listing k text.now) ≡ true) }
     ensures { Finds (breaks4 k (keys_for marks.now keys.now) (ends marks.now))
         (labels_in (listing k text.now)) result }
@@ -47,13 +43,11 @@ pub(crate) fn first_loose(
     let mut at = 0;
     while at < text.len() {
         let label = places::label_at(text, at);
-        let start = label.start;
-        let end = label.end;
-        if has_loose_end(k, keys, directory, marks, &text[start..end]) {
-            return First::Label(i);
+        if has_loose_end(k, keys, directory, marks, &text[label.start..label.end]) {
+            return Some(i);
         }
         i += 1;
-        at = end + 1;
+        at = label.end + 1;
     }
-    First::All(i)
+    None
 }

@@ -12,13 +12,8 @@ fn leaving(side: Side, edge: u8) -> u8
     ensures { result ≡ leavingBy side edge }
 {
     match side {
-        Side::Back => edge,
-        Side::Front => {
-            if edge < 4 {
-                return 3 - edge;
-            }
-            edge
-        }
+        Side::Front if edge < 4 => 3 - edge,
+        _ => edge,
     }
 }
 
@@ -27,11 +22,7 @@ fn leads_on(k: usize, label: &[u8], o: usize, base: u8) -> bool
     requires { Bases label.now × (o + k ≤ length label.now) }
     ensures { result ≡ followed k label.now o base }
 {
-    let e = o + k;
-    if e < label.len() {
-        return base == dna::valid_ascii_base_bits(label[e]);
-    }
-    true
+    label.len() <= o + k || base == dna::valid_ascii_base_bits(label[o + k])
 }
 
 // A base is the complement of that of the letter before window o, if there is one.
@@ -39,10 +30,7 @@ fn leads_back(label: &[u8], o: usize, base: u8) -> bool
     requires { Bases label.now × (o ≤ length label.now) }
     ensures { result ≡ preceded label.now o base }
 {
-    if o == 0 {
-        return true;
-    }
-    base == 3 - dna::valid_ascii_base_bits(label[o - 1])
+    o == 0 || base == 3 - dna::valid_ascii_base_bits(label[o - 1])
 }
 
 // The edges in the mark of window o, which is left by a side, are those of its neighbours.
@@ -50,9 +38,7 @@ pub(crate) fn is_joined(k: usize, label: &[u8], o: usize, side: Side, mark: u8) 
     requires { Bases label.now × (o + k ≤ length label.now) }
     ensures { result ≡ joined_by k label.now o side (end_in mark) }
 {
-    if !leads_on(k, label, o, leaving(side, marks::edge_in(mark, side))) {
-        return false;
-    }
     let other = side.inverse();
-    leads_back(label, o, leaving(other, marks::edge_in(mark, other)))
+    leads_on(k, label, o, leaving(side, marks::edge_in(mark, side)))
+        && leads_back(label, o, leaving(other, marks::edge_in(mark, other)))
 }

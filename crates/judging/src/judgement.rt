@@ -1,5 +1,5 @@
 // The whole judgement.
-ghost use Rattle.std.specs.Prelude.{◌≡◌, true, ◌≤◌, length, take, replicate};
+ghost use Rattle.std.specs.Prelude.{◌≡◌, Ok, true, ◌≤◌, length, take, replicate};
 ghost use Rattle.dna.specs.Answer.{gives};
 ghost use Rattle.state.specs.Says.{kind_of};
 ghost use Rattle.graph.specs.Table.{table_of};
@@ -13,20 +13,17 @@ ghost use Rattle.judging.specs.Places.{is_held};
 ghost use Rattle.judging.specs.Passing.{labels_in};
 ghost use Rattle.judging.specs.Answers.{judge_answer, Judges, ends_verdict, kmers_verdict};
 
-use super::{First, JudgeAnswer, Tried, ending, order, places, standing};
+use super::{Broken, JudgeError, ending, order, places, standing};
 use state::EdgeKind;
-use table::FitAnswer;
 
 // Rule 4 of a list that keeps the others.
-fn judge_ends(k: usize, keys: &[u64], directory: &[u32], marks: &[u8], text: &[u8]) -> JudgeAnswer
+fn judge_ends(k: usize, keys: &[u64], directory: &[u32], marks: &[u8], text: &[u8]) -> Option<Broken>
     requires { Ready k keys.now marks.now × (is_held (listing k text.now) ≡ true) }
-    ensures { judge_answer result ≡ gives (ends_verdict k (keys_for marks.now keys.now)
+    ensures { judge_answer (Ok result) ≡ gives (ends_verdict k (keys_for marks.now keys.now)
         (ends marks.now) (labels_in (listing k text.now))) }
 {
-    match ending::first_loose(k, keys, directory, marks, text) {
-        First::Label(i) => JudgeAnswer::Breaks { rule: 4, label: i },
-        First::All(_) => JudgeAnswer::Passes,
-    }
+    let label = ending::first_loose(k, keys, directory, marks, text)?;
+    Some(Broken { rule: 4, label })
 }
 
 // Rules 2 to 4, by marks that hold each vertex's edges, none of them visited, and a directory of whatever content.
@@ -36,28 +33,22 @@ fn judge_kmers(
     directory: &[u32],
     marks: &mut [u8],
     text: &[u8],
-) -> JudgeAnswer
+) -> Option<Broken>
     requires { Ready k keys.now marks.old × Unvisited marks.old × (is_held (listing k text.now) ≡ true) }
-    ensures { judge_answer result ≡ gives (kmers_verdict k (keys_for marks.old keys.now)
+    ensures { judge_answer (Ok result) ≡ gives (kmers_verdict k (keys_for marks.old keys.now)
         (ends marks.old) (labels_in (listing k text.now))) }
 {
     match standing::try_labels(k, keys, directory, marks, text) {
-        Tried::Misplaced(i) => JudgeAnswer::Breaks { rule: 2, label: i },
-        Tried::Placed { labels, good } => {
-            if standing::lacks(marks) {
-                return JudgeAnswer::Breaks {
-                    rule: 2,
-                    label: labels,
-                };
-            }
-            if good < labels {
-                return JudgeAnswer::Breaks {
-                    rule: 3,
-                    label: good,
-                };
-            }
-            judge_ends(k, keys, directory, marks, text)
-        }
+        Err(label) => Some(Broken { rule: 2, label }),
+        Ok(all) if standing::lacks(marks) => Some(Broken {
+            rule: 2,
+            label: all.labels,
+        }),
+        Ok(all) if all.good < all.labels => Some(Broken {
+            rule: 3,
+            label: all.good,
+        }),
+        Ok(_) => judge_ends(k, keys, directory, marks, text),
     }
 }
 
@@ -68,9 +59,9 @@ fn judge_by(
     directory: &mut [u32],
     marks: &mut [u8],
     text: &[u8],
-) -> JudgeAnswer
+) -> Option<Broken>
     requires { Ready k keys.now marks.old × Unvisited marks.old × (is_held (listing k text.now) ≡ true) }
-    ensures { judge_answer result ≡ gives (kmers_verdict k (keys_for marks.old keys.now)
+    ensures { judge_answer (Ok result) ≡ gives (kmers_verdict k (keys_for marks.old keys.now)
         (ends marks.old) (labels_in (listing k text.now))) }
 {
     directory::make(k, marks.len(), keys, directory);
@@ -78,9 +69,9 @@ fn judge_by(
 }
 
 // A directory of up to 64 KiB.
-fn judge_directed(k: usize, keys: &[u64], marks: &mut [u8], text: &[u8]) -> JudgeAnswer
+fn judge_directed(k: usize, keys: &[u64], marks: &mut [u8], text: &[u8]) -> Option<Broken>
     requires { Ready k keys.now marks.old × Unvisited marks.old × (is_held (listing k text.now) ≡ true) }
-    ensures { judge_answer result ≡ gives (kmers_verdict k (keys_for marks.old keys.now)
+    ensures { judge_answer (Ok result) ≡ gives (kmers_verdict k (keys_for marks.old keys.now)
         (ends marks.old) (labels_in (listing k text.now))) }
 {
     let mut directory = [0u32; 16385];
@@ -97,24 +88,21 @@ fn judge_list(
     counts: &[u32],
     text: &[u8],
     marks: &mut [u8],
-) -> JudgeAnswer
+) -> Option<Broken>
     requires { FitTable k keys.now counts.now marks.old × (is_held (listing k text.now) ≡ true) }
-    ensures { (judge_answer result ≡ gives (verdict k (keys_for marks.old keys.now)
+    ensures { (judge_answer (Ok result) ≡ gives (verdict k (keys_for marks.old keys.now)
         (ends_in (kind_of kind) cutoff (table_of (length marks.old) keys.now counts.now))
         (labels_in (listing k text.now)))) × (marks.new ≡ replicate (length marks.old) 0) }
 {
-    match order::first_out(text) {
-        First::Label(i) => {
-            marks::clear(marks);
-            JudgeAnswer::Breaks { rule: 1, label: i }
-        }
-        First::All(_) => {
+    let broken = match order::first_out(text) {
+        Some(label) => Some(Broken { rule: 1, label }),
+        None => {
             marks::digest(kind, counts, cutoff, marks);
-            let answer = judge_directed(k, keys, marks, text);
-            marks::clear(marks);
-            answer
+            judge_directed(k, keys, marks, text)
         }
-    }
+    };
+    marks::clear(marks);
+    broken
 }
 
 // A list over a fit table of n vertices, for which there are marks.
@@ -127,10 +115,10 @@ fn judge_first(
     counts: &[u32],
     text: &[u8],
     marks: &mut [u8],
-) -> JudgeAnswer
+) -> Option<Broken>
     requires { (n ≤ length marks.old) × FitTable k keys.now counts.now (take n marks.old)
         × (is_held (listing k text.now) ≡ true) }
-    ensures { Judges result marks.new (on_list (kind_of kind) k cutoff n keys.now counts.now
+    ensures { Judges (Ok result) marks.new (on_list (kind_of kind) k cutoff n keys.now counts.now
         text.now marks.old (listing k text.now)) }
 {
     judge_list(kind, k, cutoff, keys, counts, text, &mut marks[..n])
@@ -146,27 +134,22 @@ pub fn judge(
     counts: &[u32],
     text: &[u8],
     marks: &mut [u8],
-) -> JudgeAnswer
+) -> Result<Option<Broken>, JudgeError>
     ensures { Judges result marks.new (judged (kind_of kind) k cutoff n keys.now counts.now
         text.now marks.old) }
 {
-    match table::fit(kind, k, n, keys, counts) {
-        FitAnswer::UnsupportedK(k) => JudgeAnswer::UnsupportedK(k),
-        FitAnswer::Unfit => JudgeAnswer::Unfit,
-        FitAnswer::Fit => {
-            if !state::answers_for(kind, cutoff) {
-                return JudgeAnswer::WrongCutoff;
-            }
-            if marks.len() < n {
-                return JudgeAnswer::FewMarks;
-            }
-            if k % 2 == 0 {
-                return JudgeAnswer::EvenK;
-            }
-            if !places::is_list(k, text) {
-                return JudgeAnswer::NoList;
-            }
-            judge_first(kind, k, cutoff, n, keys, counts, text, marks)
-        }
+    table::fit(kind, k, n, keys, counts)?;
+    if !state::answers_for(kind, cutoff) {
+        return Err(JudgeError::WrongCutoff);
     }
+    if marks.len() < n {
+        return Err(JudgeError::FewMarks);
+    }
+    if k % 2 == 0 {
+        return Err(JudgeError::EvenK);
+    }
+    if !places::is_list(k, text) {
+        return Err(JudgeError::NoList);
+    }
+    Ok(judge_first(kind, k, cutoff, n, keys, counts, text, marks))
 }

@@ -1,7 +1,11 @@
 // A list of labels, as FASTA, judged against a lent table.
 #![tactic(auto)]
 
+ghost use Rattle.std.specs.Prelude.{◌≡◌};
+ghost use Rattle.judging.specs.Answers.{refused_by};
+
 use kmer::Kmer;
+use table::FitError;
 
 mod ending;
 mod joining;
@@ -13,17 +17,34 @@ mod standing;
 
 pub use judgement::judge;
 
-// Whether the list passes; if not, the first broken rule, from 1, and the lowest label concerned, from 0; or why it was not judged.
-#[derive(Clone, Copy)]
-pub enum JudgeAnswer {
-    Passes,
-    Breaks { rule: u8, label: usize },
+// The first broken rule, from 1, and the lowest label concerned, from 0. The rule stays a number: the figure of the C interface and
+// the program say it by that number.
+#[derive(Clone, Copy, PartialEq, Eq, Debug)]
+pub struct Broken {
+    pub rule: u8,
+    pub label: usize,
+}
+
+// Why a list was not judged.
+#[derive(Clone, Copy, PartialEq, Eq, Debug)]
+pub enum JudgeError {
     UnsupportedK(usize),
     Unfit,
     WrongCutoff,
     FewMarks,
     EvenK,
     NoList,
+}
+
+impl From<FitError> for JudgeError {
+    ghost from_gives = { λ e r. r ≡ refused_by e };
+
+    fn from(e: FitError) -> JudgeError {
+        match e {
+            FitError::UnsupportedK(k) => JudgeError::UnsupportedK(k),
+            FitError::Unfit => JudgeError::Unfit,
+        }
+    }
 }
 
 // Where a label stands in a text.
@@ -33,26 +54,19 @@ struct Span {
     end: usize,
 }
 
-// The first label of which a test holds, or how many labels there are.
-#[derive(Clone, Copy)]
-enum First {
-    Label(usize),
-    All(usize),
-}
-
 // What is found of a k-mer or of a label: one that may not stand or stands again, else a bad step, else nothing.
-#[derive(Clone, Copy)]
+#[derive(Clone, Copy, PartialEq, Eq, Debug)]
 enum Tested {
     Misplaced,
     BadStep,
     Fine,
 }
 
-// The first label with a misplaced k-mer; or how many labels there are, and how many before the first with a bad step.
-#[derive(Clone, Copy)]
-enum Tried {
-    Misplaced(usize),
-    Placed { labels: usize, good: usize },
+// How many labels there are, whose k-mers all stand where they may, and how many before the first with a bad step.
+#[derive(Clone, Copy, PartialEq, Eq, Debug)]
+struct AllPlaced {
+    labels: usize,
+    good: usize,
 }
 
 // A k-mer as it stands, its reverse complement, and its vertex's mark; that of no edge where it is not stored.

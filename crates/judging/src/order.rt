@@ -1,65 +1,50 @@
 // Rule 1.
-ghost use Rattle.std.specs.Prelude.{◌≡◌, true, false, cond, not, List, ℕ, ◌-◌, ◌≤◌, ◌<◌, eqb, length};
-ghost use Rattle.dna.specs.Order.{before as comesBefore};
+ghost use Rattle.std.specs.Prelude.{◌≡◌, true, List, ℕ, ◌≤◌, IfSome, length};
 ghost use Rattle.rules.specs.Listing.{listing};
-ghost use Rattle.rules.specs.Verdict.{breaks1};
+ghost use Rattle.rules.specs.Verdict.{not_behind, breaks1};
 ghost use Rattle.judging.specs.Places.{is_held};
 ghost use Rattle.judging.specs.Passing.{labels_in, Finds, Follows, spanned};
 
-use super::{First, Span, places};
-use sorting::Order;
+use super::{Span, places};
 
 // A label does not stand behind the one before it, if there is one.
-fn is_not_behind(text: &[u8], i: usize, before: Span, label: Span) -> bool
-    requires { (before.start ≤ before.end) × (label.start ≤ label.end) }
-    ensures { result ≡ cond (eqb i 0) false (not
-        (comesBefore (spanned text.now before) (spanned text.now label))) }
+fn is_not_behind(text: &[u8], before: Option<Span>, label: Span) -> bool
+    requires { IfSome before (λ b. b.start ≤ b.end) × (label.start ≤ label.end) }
+    ensures { (done : List (List ℕ)) → Follows text.now before done → result
+        ≡ not_behind done (spanned text.now label) }
 {
-    if i == 0 {
-        return false;
-    }
-    let s = before.start;
-    let m = before.end - s;
-    let t = label.start;
-    let n = label.end - t;
-    match sorting::compare(text, s, m, t, n) {
-        Order::Before => false,
-        Order::Same => true,
-        Order::After => true,
+    match before {
+        Some(b) => sorting::compare(text, b.start, b.end - b.start, label.start, label.end - label.start).is_ge(),
+        None => false,
     }
 }
 
 // Label i is out of order.
-fn is_out(text: &[u8], i: usize, before: Span, label: Span) -> bool
-    requires { (before.start ≤ before.end) × (label.start ≤ label.end) × (label.end ≤ length text.now) }
-    ensures { (done : List (List ℕ)) → Follows text.now i before done → result
+fn is_out(text: &[u8], before: Option<Span>, label: Span) -> bool
+    requires { IfSome before (λ b. b.start ≤ b.end) × (label.start ≤ label.end) × (label.end ≤ length text.now) }
+    ensures { (done : List (List ℕ)) → Follows text.now before done → result
         ≡ breaks1 done (spanned text.now label) }
 {
-    if is_not_behind(text, i, before, label) {
-        return true;
-    }
-    let start = label.start;
-    let end = label.end;
-    strands::is_above(&text[start..end])
+    is_not_behind(text, before, label) || strands::is_above(&text[label.start..label.end])
 }
 
 // The first label out of order.
-pub(crate) fn first_out(text: &[u8]) -> First
+pub(crate) fn first_out(text: &[u8]) -> Option<usize>
     requires { (K : ℕ) × (is_held (listing K text.now) ≡ true) }
     ensures { (K : ℕ) → is_held (listing K text.now) ≡ true
         → Finds breaks1 (labels_in (listing K text.now)) result }
 {
-    let mut before = Span { start: 0, end: 0 };
+    let mut before = None;
     let mut i = 0;
     let mut at = 0;
     while at < text.len() {
         let label = places::label_at(text, at);
-        if is_out(text, i, before, label) {
-            return First::Label(i);
+        if is_out(text, before, label) {
+            return Some(i);
         }
-        before = label;
+        before = Some(label);
         i += 1;
         at = label.end + 1;
     }
-    First::All(i)
+    None
 }

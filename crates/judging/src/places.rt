@@ -11,57 +11,33 @@ fn line_end(text: &[u8], at: usize) -> usize
     requires { at ≤ length text.now }
     ensures { LineEnds text.now at result }
 {
-    let mut i = at;
-    while i < text.len() {
-        if text[i] == 10 {
+    for i in at..text.len() {
+        if text[i] == b'\n' {
             return i;
         }
-        i += 1;
     }
-    i
+    text.len()
 }
 
 // A, C, G or T.
 fn is_letter(byte: u8) -> bool
     ensures { result ≡ among byte (bytes "ACGT") }
 {
-    if byte == 65 {
-        return true;
-    }
-    if byte == 67 {
-        return true;
-    }
-    if byte == 71 {
-        return true;
-    }
-    if byte == 84 {
-        return true;
-    }
-    false
+    matches!(byte, b'A' | b'C' | b'G' | b'T')
 }
 
 // Every letter is A, C, G or T.
 fn is_plain(label: &[u8]) -> bool
     ensures { result ≡ is_plain label.now }
 {
-    let mut i = 0;
-    while i < label.len() {
-        if !is_letter(label[i]) {
-            return false;
-        }
-        i += 1;
-    }
-    true
+    label.iter().all(|&byte| is_letter(byte))
 }
 
 // A line of at least k letters A, C, G, T.
 fn is_label(k: usize, line: &[u8]) -> bool
     ensures { result ≡ (leb k (length line.now) && is_plain line.now) }
 {
-    if line.len() < k {
-        return false;
-    }
-    is_plain(line)
+    k <= line.len() && is_plain(line)
 }
 
 // The label of the record at a place of a list.
@@ -86,13 +62,7 @@ pub(crate) fn is_list(k: usize, text: &[u8]) -> bool
         }
         let start = head + 1;
         let end = line_end(text, start);
-        if end == text.len() {
-            return false;
-        }
-        if text[at] != 62 {
-            return false;
-        }
-        if !is_label(k, &text[start..end]) {
+        if end == text.len() || text[at] != b'>' || !is_label(k, &text[start..end]) {
             return false;
         }
         at = end + 1;

@@ -10,9 +10,9 @@ ghost use Rattle.rules.specs.Verdict.{is_one_base, apart, loose_end};
 ghost use Rattle.judging.specs.Says.{Sees, Kmers, turned_of, exit_of, after_of, leads_by, step_by, lesser_of};
 
 use super::Seen;
+use dna::Base;
 use kmer::Kmer;
 use state::Side;
-use table::Found;
 
 // The mark of a vertex without edges.
 const NO_EDGES: u8 = 45;
@@ -29,19 +29,15 @@ pub(crate) fn see(k: usize, keys: &[u64], directory: &[u32], marks: &[u8], x: Km
     requires { Ready k keys.now marks.now × (value_of x < 4 ^ k) }
     ensures { Sees k (keys_for marks.now keys.now) (ends marks.now) (value_of x) result }
 {
-    let y = x.reverse_complement(k).kmer;
-    let c = lesser(x, y);
-    match directory::find(k, marks.len(), keys, directory, c) {
-        Found::At(v) => Seen {
-            here: x,
-            other: y,
-            mark: marks[v],
-        },
-        Found::Gap(_) => Seen {
-            here: x,
-            other: y,
-            mark: NO_EDGES,
-        },
+    let y = x.reverse_complement(k).unwrap();
+    let mark = match directory::find(k, marks.len(), keys, directory, lesser(x, y)) {
+        Ok(v) => marks[v],
+        Err(_) => NO_EDGES,
+    };
+    Seen {
+        here: x,
+        other: y,
+        mark,
     }
 }
 
@@ -58,8 +54,7 @@ pub(crate) fn see_window(
     ensures { Sees k (keys_for marks.now keys.now) (ends marks.now)
         (window k label.now o) result }
 {
-    let e = o + k;
-    let x = Kmer::from_ascii(k, &label[o..e]).kmer;
+    let x = Kmer::from_ascii(k, &label[o..o + k]).unwrap();
     see(k, keys, directory, marks, x)
 }
 
@@ -67,11 +62,9 @@ pub(crate) fn see_window(
 pub(crate) fn turned(x: Seen) -> Seen
     ensures { result ≡ turned_of x }
 {
-    let here = x.here;
-    let other = x.other;
     Seen {
-        here: other,
-        other: here,
+        here: x.other,
+        other: x.here,
         mark: x.mark,
     }
 }
@@ -80,12 +73,7 @@ pub(crate) fn turned(x: Seen) -> Seen
 fn exit(x: Seen) -> Side
     ensures { result ≡ exit_of x }
 {
-    let here = x.here;
-    let other = x.other;
-    if other.is_less(here) {
-        return Side::Front;
-    }
-    Side::Back
+    if x.other.is_less(x.here) { Side::Front } else { Side::Back }
 }
 
 // The k-mer that follows x by the only edge retained on a side.
@@ -93,9 +81,8 @@ fn after(k: usize, x: Seen, side: Side) -> Kmer
     requires { Kmers k x × (end_in x.mark side < 4) }
     ensures { value_of result ≡ after_of k x side }
 {
-    let here = x.here;
     let base = marks::leaving_base(side, marks::edge_in(x.mark, side));
-    here.roll_forward(k, base).kmer
+    x.here.roll_forward(k, base).unwrap()
 }
 
 // The only edge retained on a side of x leads to y.
@@ -103,11 +90,7 @@ fn leads_to(k: usize, x: Seen, side: Side, y: Kmer) -> bool
     requires { Kmers k x }
     ensures { result ≡ leads_by k x side (value_of y) }
 {
-    if 3 < marks::edge_in(x.mark, side) {
-        return false;
-    }
-    let z = after(k, x, side);
-    z.is_same(y)
+    marks::edge_in(x.mark, side) < 4 && after(k, x, side).is_same(y)
 }
 
 // One edge leads from x to y and, on the other strand, back, and is the only one on its side at both ends.
@@ -115,12 +98,7 @@ pub(crate) fn is_step(k: usize, x: Seen, y: Seen) -> bool
     requires { Kmers k x × Kmers k y }
     ensures { result ≡ step_by k x y }
 {
-    let there = y.here;
-    if !leads_to(k, x, exit(x), there) {
-        return false;
-    }
-    let home = x.other;
-    leads_to(k, turned(y), exit(y).inverse(), home)
+    leads_to(k, x, exit(x), y.here) && leads_to(k, turned(y), exit(y).inverse(), x.other)
 }
 
 // One repeated base: the k-mer follows itself.
@@ -128,17 +106,14 @@ fn is_one_base(k: usize, x: Kmer) -> bool
     requires { (ok_k k ≡ true) × (value_of x < 4 ^ k) }
     ensures { result ≡ is_one_base k (value_of x) }
 {
-    let last = marks::base_of((x.words[0] % 4) as u8);
-    let y = x.roll_forward(k, last).kmer;
-    y.is_same(x)
+    let last = Base::from_bits((x.words[0] % 4) as u8);
+    x.roll_forward(k, last).unwrap().is_same(x)
 }
 
 fn canonical(x: Seen) -> Kmer
     ensures { value_of result ≡ lesser_of x.here x.other }
 {
-    let here = x.here;
-    let other = x.other;
-    lesser(here, other)
+    lesser(x.here, x.other)
 }
 
 // The canonical form d is another k-mer's than c and f, and neither c nor d is one repeated base.
@@ -146,16 +121,7 @@ fn is_apart(k: usize, c: Kmer, d: Kmer, f: Kmer) -> bool
     requires { (ok_k k ≡ true) × (value_of c < 4 ^ k) × (value_of d < 4 ^ k) }
     ensures { result ≡ apart k (value_of c) (value_of d) (value_of f) }
 {
-    if d.is_same(c) {
-        return false;
-    }
-    if is_one_base(k, c) {
-        return false;
-    }
-    if is_one_base(k, d) {
-        return false;
-    }
-    !d.is_same(f)
+    !d.is_same(c) && !is_one_base(k, c) && !is_one_base(k, d) && !d.is_same(f)
 }
 
 // A row of windows ends with x and begins with f: x is joined by such an edge with another k-mer than f, and neither is one repeated base.
@@ -176,10 +142,6 @@ pub(crate) fn is_loose(
     if 3 < marks::edge_in(x.mark, side) {
         return false;
     }
-    let z = after(k, x, side);
-    let y = see(k, keys, directory, marks, z);
-    if !is_step(k, x, y) {
-        return false;
-    }
-    is_apart(k, canonical(x), canonical(y), canonical(f))
+    let y = see(k, keys, directory, marks, after(k, x, side));
+    is_step(k, x, y) && is_apart(k, canonical(x), canonical(y), canonical(f))
 }

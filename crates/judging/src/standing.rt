@@ -7,10 +7,9 @@ ghost use Rattle.marks.specs.Ready.{Ready, Unvisited};
 ghost use Rattle.judging.specs.Places.{is_held};
 ghost use Rattle.judging.specs.Standing.{one_more, TestsKmer, TestsWindow, Stands, Placed, Lacking};
 
-use super::{Tested, Tried, joining, places};
+use super::{AllPlaced, Tested, joining, places};
 use kmer::Kmer;
 use state::Side;
-use table::Found;
 
 // The canonical k-mer c of window o, which is left by a side, may not stand, or has stood before; else it is marked, and its edges are
 // compared with the label.
@@ -27,19 +26,18 @@ fn test_kmer(
     requires { Ready k keys.now marks.old × Bases label.now × (o + k ≤ length label.now) }
     ensures { TestsKmer k keys.now marks.old label.now o (value_of c) side result marks.new }
 {
-    match directory::find(k, marks.len(), keys, directory, c) {
-        Found::Gap(_) => Tested::Misplaced,
-        Found::At(v) => {
-            if marks::is_skipped(marks, v) {
-                return Tested::Misplaced;
-            }
-            let mark = marks[v];
-            marks[v] = mark % 64 + 64;
-            if joining::is_joined(k, label, o, side, mark) {
-                return Tested::Fine;
-            }
-            Tested::BadStep
-        }
+    let Ok(v) = directory::find(k, marks.len(), keys, directory, c) else {
+        return Tested::Misplaced;
+    };
+    if marks::is_skipped(marks, v) {
+        return Tested::Misplaced;
+    }
+    let mark = marks[v];
+    marks[v] = mark % 64 + 64;
+    if joining::is_joined(k, label, o, side, mark) {
+        Tested::Fine
+    } else {
+        Tested::BadStep
     }
 }
 
@@ -55,13 +53,13 @@ fn test_window(
     requires { Ready k keys.now marks.old × Bases label.now × (o + k ≤ length label.now) }
     ensures { TestsWindow k keys.now marks.old label.now o result marks.new }
 {
-    let e = o + k;
-    let x = Kmer::from_ascii(k, &label[o..e]).kmer;
-    let y = x.reverse_complement(k).kmer;
+    let x = Kmer::from_ascii(k, &label[o..o + k]).unwrap();
+    let y = x.reverse_complement(k).unwrap();
     if y.is_less(x) {
-        return test_kmer(k, keys, directory, marks, label, o, y, Side::Front);
+        test_kmer(k, keys, directory, marks, label, o, y, Side::Front)
+    } else {
+        test_kmer(k, keys, directory, marks, label, o, x, Side::Back)
     }
-    test_kmer(k, keys, directory, marks, label, o, x, Side::Back)
 }
 
 // All windows of a label, up to one that is misplaced; where none is, all are marked.
@@ -69,23 +67,15 @@ fn test_label(k: usize, keys: &[u64], directory: &[u32], marks: &mut [u8], label
     requires { Ready k keys.now marks.old × Label k label.now }
     ensures { Stands k keys.now marks.old label.now result marks.new }
 {
-    let end = label.len() - k + 1;
-    let mut bad = false;
-    let mut o = 0;
-    while o < end {
+    let mut found = Tested::Fine;
+    for o in 0..label.len() - k + 1 {
         match test_window(k, keys, directory, marks, label, o) {
             Tested::Misplaced => return Tested::Misplaced,
-            Tested::BadStep => {
-                bad = true;
-                o += 1;
-            }
-            Tested::Fine => o += 1,
+            Tested::BadStep => found = Tested::BadStep,
+            Tested::Fine => {}
         }
     }
-    if bad {
-        return Tested::BadStep;
-    }
-    Tested::Fine
+    found
 }
 
 // How many labels stand before the first with a bad step, where label i has none and so many did before: one more where all were good.
@@ -93,20 +83,17 @@ fn one_more(good: usize, i: usize) -> usize
     requires { (good ≤ i) × (i < 2 ^ 63) }
     ensures { result ≡ one_more good i }
 {
-    if good < i {
-        return good;
-    }
-    good + 1
+    if good < i { good } else { good + 1 }
 }
 
-// The labels in order, up to one with a misplaced k-mer; where there is none, the k-mers of all are marked.
+// The labels in order, up to one with a misplaced k-mer, whose number is the Err; where there is none, the k-mers of all are marked.
 pub(crate) fn try_labels(
     k: usize,
     keys: &[u64],
     directory: &[u32],
     marks: &mut [u8],
     text: &[u8],
-) -> Tried
+) -> Result<AllPlaced, usize>
     requires { Ready k keys.now marks.old × Unvisited marks.old × (is_held (listing k text.now) ≡ true) }
     ensures { Placed k keys.now marks.old text.now result marks.new }
 {
@@ -115,34 +102,20 @@ pub(crate) fn try_labels(
     let mut at = 0;
     while at < text.len() {
         let label = places::label_at(text, at);
-        let start = label.start;
-        let end = label.end;
-        match test_label(k, keys, directory, marks, &text[start..end]) {
-            Tested::Misplaced => return Tried::Misplaced(i),
-            Tested::BadStep => {
-                i += 1;
-                at = end + 1;
-            }
-            Tested::Fine => {
-                good = one_more(good, i);
-                i += 1;
-                at = end + 1;
-            }
+        match test_label(k, keys, directory, marks, &text[label.start..label.end]) {
+            Tested::Misplaced => return Err(i),
+            Tested::BadStep => {}
+            Tested::Fine => good = one_more(good, i),
         }
+        i += 1;
+        at = label.end + 1;
     }
-    Tried::Placed { labels: i, good }
+    Ok(AllPlaced { labels: i, good })
 }
 
 // A vertex with an edge is not marked.
 pub(crate) fn lacks(marks: &[u8]) -> bool
     ensures { Lacking marks.now result }
 {
-    let mut v = 0;
-    while v < marks.len() {
-        if !marks::is_skipped(marks, v) {
-            return true;
-        }
-        v += 1;
-    }
-    false
+    (0..marks.len()).any(|v| !marks::is_skipped(marks, v))
 }
