@@ -1,9 +1,7 @@
 -- A directory of a table's keys: beside each run of leading bases, the place up to which keys begin with it. It is a hint: what is
 -- looked up by it is tested. Assumes nothing.
-use Rattle.std.specs.Prelude.{ℕ, suc, ◌-◌, ◌/◌, ◌%◌, ◌^◌, Bool, true, cond, ◌&&◌, ◌||◌, List, [], ◌∷◌, ltb, leb, eqb, length, get_or, set}
+use Rattle.std.specs.Prelude.{ℕ, suc, ◌-◌, ◌/◌, ◌%◌, ◌^◌, Bool, true, cond, ◌&&◌, ◌||◌, List, [], ◌∷◌, ltb, leb, eqb, length, get_or, set, Result, Ok, Err}
 use Rattle.table.specs.Search.{find_between, find_in}
-use Rattle.table.specs.declared.Found.{Found}
-use Rattle.table.specs.declared.Found.TheVariants.{At, Gap}
 
 -- How many leading bases a directory of so many cells tells apart: it has a cell for each of their runs, and one more. None where
 -- it has too few.
@@ -41,15 +39,17 @@ abbrev pub behind : List ℕ → ℕ → ℕ → Bool
 behind ks x i = eqb i 0 || ltb (get_or ks (i - 1) 0) x
 
 -- The keys beside a place say that x is there, or would be.
-unfoldable pub stands : List ℕ → ℕ → Found → Bool
-stands ks x (At i) = true
-stands ks x (Gap i) = before ks x i && behind ks x i
+unfoldable pub stands : List ℕ → ℕ → Result ℕ ℕ → Bool
+stands ks x (Ok i) = true
+stands ks x (Err i) = before ks x i && behind ks x i
 
 -- Where x stands between the places that its slot has in a directory.
-abbrev pub hinted : ℕ → List ℕ → List ℕ → ℕ → Found
+abbrev pub hinted : ℕ → List ℕ → List ℕ → ℕ → Result ℕ ℕ
 hinted K ks cells x =
-    find_between ks (get_or cells (slot_of (bases_of (length cells)) K x) 0) (get_or cells (suc (slot_of (bases_of (length cells)) K x)) 0) x
+    find_between ks (get_or cells (slot_of (bases_of (length cells)) K x) 0)
+    (get_or cells (suc (slot_of (bases_of (length cells)) K x)) 0) x
 
 -- Where x stands: as its slot says if the keys confirm it, else by a search among all.
-abbrev pub find_by : ℕ → List ℕ → List ℕ → ℕ → Found
-find_by K ks cells x = cond (ltb 1024 (length cells) && stands ks x (hinted K ks cells x)) (hinted K ks cells x) (find_in ks x)
+abbrev pub find_by : ℕ → List ℕ → List ℕ → ℕ → Result ℕ ℕ
+find_by K ks cells x =
+    cond (ltb 1024 (length cells) && stands ks x (hinted K ks cells x)) (hinted K ks cells x) (find_in ks x)

@@ -2,15 +2,13 @@
 // the test fails all keys are searched, so that over a fit table the answer is right whatever the directory says.
 #![tactic(auto)]
 
-ghost use Rattle.std.specs.Prelude.{◌≡◌, ◌/◌, ◌≤◌, ◌<◌, min, length};
+ghost use Rattle.std.specs.Prelude.{◌≡◌, ◌/◌, ◌≤◌, ◌<◌, length};
 ghost use Rattle.kmer.specs.Says.{value_of};
 ghost use Rattle.graph.specs.Table.{keys_of};
 ghost use Rattle.table.specs.Search.{key};
-ghost use Rattle.table.specs.declared.Found.TheVariants.{Gap};
 ghost use Rattle.directory.specs.Directory.{cells_for, before, stands, find_by};
 
 use kmer::Kmer;
-use table::Found;
 
 mod making;
 mod slots;
@@ -30,12 +28,6 @@ pub fn cells_for(n: usize) -> usize
     16385
 }
 
-fn least(a: usize, b: usize) -> usize
-    ensures { result ≡ min a b }
-{
-    if a < b { a } else { b }
-}
-
 // Key i.
 fn key_at(keys: &[u64], i: usize) -> Kmer
     requires { i < length keys.now / 2 }
@@ -50,7 +42,7 @@ fn key_at(keys: &[u64], i: usize) -> Kmer
 fn is_before(n: usize, keys: &[u64], i: usize, x: Kmer) -> bool
     ensures { result ≡ before (keys_of n keys.now) (value_of x) i }
 {
-    if i < least(n, keys.len() / 2) {
+    if i < n.min(keys.len() / 2) {
         let y = key_at(keys, i);
         return x.is_less(y);
     }
@@ -60,7 +52,7 @@ fn is_before(n: usize, keys: &[u64], i: usize, x: Kmer) -> bool
 // Of the first n keys the one at place i, if there is one, is above x, and the one before it below.
 fn is_between(n: usize, keys: &[u64], i: usize, x: Kmer) -> bool
     requires { i ≤ length (keys_of n keys.now) }
-    ensures { result ≡ stands (keys_of n keys.now) (value_of x) (Gap i) }
+    ensures { result ≡ stands (keys_of n keys.now) (value_of x) (Err i) }
 {
     if !is_before(n, keys, i, x) {
         return false;
@@ -72,8 +64,8 @@ fn is_between(n: usize, keys: &[u64], i: usize, x: Kmer) -> bool
     y.is_less(x)
 }
 
-// Where x stands among the first n keys, as far as there are so many.
-pub fn find(k: usize, n: usize, keys: &[u64], directory: &[u32], x: Kmer) -> Found
+// Where x stands among the first n keys, as far as there are so many; else where it would be put in.
+pub fn find(k: usize, n: usize, keys: &[u64], directory: &[u32], x: Kmer) -> Result<usize, usize>
     ensures { result ≡ find_by k (keys_of n keys.now) directory.now (value_of x) }
 {
     let b = slots::bases_of(directory.len());
@@ -84,12 +76,7 @@ pub fn find(k: usize, n: usize, keys: &[u64], directory: &[u32], x: Kmer) -> Fou
     let lo = directory[t] as usize;
     let hi = directory[t + 1] as usize;
     match table::find_between(n, keys, lo, hi, x) {
-        Found::At(i) => Found::At(i),
-        Found::Gap(i) => {
-            if is_between(n, keys, i, x) {
-                return Found::Gap(i);
-            }
-            table::find(n, keys, x)
-        }
+        Err(i) if !is_between(n, keys, i, x) => table::find(n, keys, x),
+        found => found,
     }
 }

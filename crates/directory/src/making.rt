@@ -3,7 +3,7 @@ ghost use Rattle.std.specs.Prelude.{◌≡◌, ◌/◌, ◌^◌, ◌<◌, ◌≤
 ghost use Rattle.graph.specs.Table.{keys_of};
 ghost use Rattle.directory.specs.Directory.{slot_of, tallied, spread, directory_of};
 
-use super::{least, slots};
+use super::slots;
 use kmer::Kmer;
 
 // Beside each slot, one cell further on, the number of keys up to the last that is in it.
@@ -46,7 +46,7 @@ pub fn make(k: usize, n: usize, keys: &[u64], directory: &mut [u32])
 {
     let b = slots::bases_of(directory.len());
     if 0 < b {
-        let end = least(least(n, 65536), keys.len() / 2);
+        let end = n.min(65536).min(keys.len() / 2);
         tally(k, b, end, keys, directory);
         fill_gaps(directory);
     }

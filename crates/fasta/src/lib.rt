@@ -8,13 +8,11 @@ ghost use Rattle.graph.specs.Fasta.{record_of, records_of, fasta};
 ghost use Rattle.fasta.specs.Sizes.{size_of};
 ghost use Rattle.fasta.specs.Says.{Lists};
 
-use dna::copy;
 use label_index::{lie_within, wide};
 
-// The bytes written; the text exceeds its slice; an index slice is shorter than the count, or an entry lies past the labels.
-#[derive(Clone, Copy)]
-pub enum FastaAnswer {
-    Written(usize),
+// The text exceeds its slice; an index slice is shorter than the count, or an entry lies past the labels.
+#[derive(Clone, Copy, PartialEq, Eq, Debug)]
+pub enum FastaError {
     NoRoom,
     OutOfLabels,
 }
@@ -46,7 +44,7 @@ fn write_record(label: &[u8], out: &mut [u8]) -> usize
     out[0] = b'>';
     out[1] = b'0';
     out[2] = b'\n';
-    copy(label, &mut out[3..]);
+    out[3..3 + n].copy_from_slice(label);
     out[3 + n] = b'\n';
     n + 4
 }
@@ -73,21 +71,21 @@ fn write_records(
     at
 }
 
-// `>0`, newline, label, newline for each of the first count entries of the index, from out's first cell on.
+// `>0`, newline, label, newline for each of the first count entries of the index, from out's first cell on; the bytes written.
 pub fn write_fasta(
     labels: &[u8],
     starts: &[u32],
     lengths: &[u32],
     count: usize,
     out: &mut [u8],
-) -> FastaAnswer
+) -> Result<usize, FastaError>
     ensures { Lists result out.new (fasta labels.now starts.now lengths.now count out.old) }
 {
     if !lie_within(labels, starts, lengths, count) {
-        return FastaAnswer::OutOfLabels;
+        return Err(FastaError::OutOfLabels);
     }
     if !has_room(lengths, count, out.len()) {
-        return FastaAnswer::NoRoom;
+        return Err(FastaError::NoRoom);
     }
-    FastaAnswer::Written(write_records(labels, starts, lengths, count, out))
+    Ok(write_records(labels, starts, lengths, count, out))
 }

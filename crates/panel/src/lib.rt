@@ -15,11 +15,10 @@ use label_index::{lie_within, wide};
 // The answer for a label without a probe: no start is so large.
 pub const NONE: u32 = 0xffff_ffff;
 
-// The number of labels answered; K, cutoff or length outside the profile; least above most or most above the length;
-// an index slice is shorter than the count, or an entry lies past the labels; the answers exceed their slice.
-#[derive(Clone, Copy)]
-pub enum PanelAnswer {
-    Answered(usize),
+// K, cutoff or length outside the profile; least above most or most above the length; an index slice is shorter than
+// the count, or an entry lies past the labels; the answers exceed their slice.
+#[derive(Clone, Copy, PartialEq, Eq, Debug)]
+pub enum PanelError {
     OutOfProfile,
     WrongBounds,
     OutOfLabels,
@@ -148,22 +147,22 @@ pub fn panel(
     lengths: &[u32],
     count: usize,
     out: &mut [u32],
-) -> PanelAnswer
+) -> Result<usize, PanelError>
     ensures { Panels result out.new (panel k cutoff probe least most
         labels.now starts.now lengths.now count out.old) }
 {
     if !in_profile(k, cutoff, probe) {
-        return PanelAnswer::OutOfProfile;
+        return Err(PanelError::OutOfProfile);
     }
     if !lies_between(least, most, probe) {
-        return PanelAnswer::WrongBounds;
+        return Err(PanelError::WrongBounds);
     }
     if !lie_within(labels, starts, lengths, count) {
-        return PanelAnswer::OutOfLabels;
+        return Err(PanelError::OutOfLabels);
     }
     if out.len() < count {
-        return PanelAnswer::NoRoom;
+        return Err(PanelError::NoRoom);
     }
     answer_each(probe, least, most, labels, starts, lengths, count, out);
-    PanelAnswer::Answered(count)
+    Ok(count)
 }

@@ -1,9 +1,9 @@
 -- Vertices put in among those of a table, each at its place. Assumes nothing.
-use Rattle.std.specs.Prelude.{ℕ, ◌+◌, ◌≡◌, Bool, true, cond, not, ◌&&◌, List, [], ◌∷◌, ltb, leb, length, take}
+use Rattle.std.specs.Prelude.{ℕ, ◌+◌, ◌≡◌, Bool, true, cond, not, ◌&&◌, List, [], ◌∷◌, ltb, leb, length, take, Result, Ok, Err}
 use Rattle.dna.specs.Text.{over}
 use Rattle.graph.specs.Table.{keys_of, words_of, capacity, insert_at}
-use Rattle.table.specs.declared.JoinAnswer.{JoinAnswer}
-use Rattle.table.specs.declared.JoinAnswer.TheVariants.{Joined, Full, Misplaced}
+use Rattle.table.specs.declared.JoinError.{JoinError}
+use Rattle.table.specs.declared.JoinError.TheVariants.{Full, Misplaced}
 
 -- Places that do not fall, from the least on, and none above an end.
 unfoldable pub rising : ℕ → ℕ → List ℕ → Bool
@@ -18,7 +18,7 @@ put_in (p ∷ ps) (x ∷ xs) l = insert_at p x (put_in ps xs l)
 
 -- What putting in m vertices answers, and the two slices of the table afterwards.
 pub record Joining : Type 0 where
-  pub answer : JoinAnswer
+  pub answer : Result ℕ JoinError
   pub keys : List ℕ
   pub counts : List ℕ
 
@@ -29,16 +29,16 @@ module _ (n : ℕ) (keys counts : List ℕ) (m : ℕ) (places new-keys new-count
 
   abbrev pub join_call : Joining
   join_call =
-      cond (not placed) (record { answer = Misplaced; keys = keys; counts = counts })
-      (cond (ltb (capacity keys counts) (n + m)) (record { answer = Full; keys = keys; counts = counts })
+      cond (not placed) (record { answer = Err Misplaced; keys = keys; counts = counts })
+      (cond (ltb (capacity keys counts) (n + m)) (record { answer = Err Full; keys = keys; counts = counts })
       (record {
-        answer = Joined (n + m);
+        answer = Ok (n + m);
         keys = over (words_of (put_in (take m places) (keys_of m new-keys) (keys_of n keys))) keys;
         counts = over (put_in (take m places) (take m new-counts) (take n counts)) counts;
       }))
 
 -- A call that puts in vertices: its answer, and the slices at exit.
-pub record Joins (r : JoinAnswer) (keys counts : List ℕ) (j : Joining) : Type 0 where
+pub record Joins (r : Result ℕ JoinError) (keys counts : List ℕ) (j : Joining) : Type 0 where
   pub answer : r ≡ j.answer
   pub keys_after : keys ≡ j.keys
   pub counts_after : counts ≡ j.counts

@@ -1,8 +1,6 @@
 -- Binary search in a list of keys. Assumes nothing.
-use Rattle.std.specs.Prelude.{ℕ, zero, suc, ◌+◌, ◌-◌, ◌*◌, ◌/◌, min, Bool, cond, ◌&&◌, List, ltb, eqb, length, get_or}
+use Rattle.std.specs.Prelude.{ℕ, zero, suc, ◌+◌, ◌-◌, ◌*◌, ◌/◌, min, Bool, cond, ◌&&◌, List, ltb, eqb, length, get_or, Result, Ok, Err}
 use Rattle.kmer.specs.Kmer.{joined}
-use Rattle.table.specs.declared.Found.{Found}
-use Rattle.table.specs.declared.Found.TheVariants.{At, Gap}
 
 -- Key i of a slice of words.
 abbrev pub key : List ℕ → ℕ → ℕ
@@ -23,19 +21,19 @@ halving passes (suc most) lo hi =
 unfoldable pub place_between : List ℕ → ℕ → ℕ → ℕ → ℕ
 place_between ks lo hi x = halving (λ i. ltb (get_or ks i 0) x) (length ks) lo hi
 
--- x stands at that place, or it is not found between the two, which are cut to the list.
-unfoldable pub find_between : List ℕ → ℕ → ℕ → ℕ → Found
+-- Ok: x stands at that place. Err: it is not found between the two, which are cut to the list.
+unfoldable pub find_between : List ℕ → ℕ → ℕ → ℕ → Result ℕ ℕ
 find_between ks lo hi x =
     let end = min hi (length ks) in
     let i = place_between ks (min lo end) end x in
-    cond (ltb i end && eqb (get_or ks i 0) x) (At i) (Gap i)
+    cond (ltb i end && eqb (get_or ks i 0) x) (Ok i) (Err i)
 
 -- The place at which the search for x among all ends.
 unfoldable pub place_of : List ℕ → ℕ → ℕ
 place_of ks x = halving (λ i. ltb (get_or ks i 0) x) (length ks) 0 (length ks)
 
--- x stands at that place, or would be put in there.
-unfoldable pub find_in : List ℕ → ℕ → Found
+-- Ok: x stands at that place. Err: it would be put in there.
+unfoldable pub find_in : List ℕ → ℕ → Result ℕ ℕ
 find_in ks x =
     let i = place_of ks x in
-    cond (ltb i (length ks) && eqb (get_or ks i 0) x) (At i) (Gap i)
+    cond (ltb i (length ks) && eqb (get_or ks i 0) x) (Ok i) (Err i)

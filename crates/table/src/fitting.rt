@@ -7,8 +7,8 @@ ghost use Rattle.table.specs.Bounds.{bound_of, unit_of, Bounds};
 ghost use Rattle.table.specs.Calls.{fit_call, fit_answer};
 
 use super::words::words_fit;
-use super::{FitAnswer, capacity};
-use kmer::{Kmer, TestAnswer};
+use super::{FitError, capacity};
+use kmer::Kmer;
 use state::EdgeKind;
 
 // Four bases turned: their reverse complement.
@@ -56,10 +56,7 @@ fn is_key(k: usize, low: u64, high: u64) -> bool
     ensures { result ≡ ltb (joined low high) (4 ^ k) && is_canon k (joined low high) }
 {
     let x = Kmer { words: [low, high] };
-    match x.is_canonical(k) {
-        TestAnswer::Is(t) => t,
-        TestAnswer::Refused(_) => false,
-    }
+    x.is_canonical(k).unwrap_or(false)
 }
 
 // A number of two words is below another.
@@ -174,23 +171,14 @@ fn keys_fit(k: usize, n: usize, keys: &[u64]) -> bool
 }
 
 // K is tested first, then the room, the keys, the words.
-pub fn fit(kind: EdgeKind, k: usize, n: usize, keys: &[u64], counts: &[u32]) -> FitAnswer
+pub fn fit(kind: EdgeKind, k: usize, n: usize, keys: &[u64], counts: &[u32]) -> Result<(), FitError>
     ensures { fit_answer result ≡ fit_call (kind_of kind) k n keys.now counts.now }
 {
-    if k == 0 {
-        return FitAnswer::UnsupportedK(k);
+    if k == 0 || 63 < k {
+        return Err(FitError::UnsupportedK(k));
     }
-    if 63 < k {
-        return FitAnswer::UnsupportedK(k);
+    if n <= capacity(keys, counts) && keys_fit(k, n, keys) && words_fit(kind, n, counts) {
+        return Ok(());
     }
-    if capacity(keys, counts) < n {
-        return FitAnswer::Unfit;
-    }
-    if !keys_fit(k, n, keys) {
-        return FitAnswer::Unfit;
-    }
-    if words_fit(kind, n, counts) {
-        return FitAnswer::Fit;
-    }
-    FitAnswer::Unfit
+    Err(FitError::Unfit)
 }

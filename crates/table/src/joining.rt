@@ -5,7 +5,7 @@ ghost use Rattle.dna.specs.Text.{over};
 ghost use Rattle.graph.specs.Table.{keys_of, words_of};
 ghost use Rattle.table.specs.Join.{rising, put_in, join_call, Joins};
 
-use super::{JoinAnswer, capacity};
+use super::{JoinError, capacity};
 
 // Whether the first m places do not fall and none is above n.
 fn rises(n: usize, m: usize, places: &[u32]) -> bool
@@ -120,26 +120,17 @@ pub fn join(
     places: &[u32],
     new_keys: &[u64],
     new_counts: &[u32],
-) -> JoinAnswer
+) -> Result<usize, JoinError>
     ensures { Joins result keys.new counts.new (join_call n keys.old counts.old m places.now new_keys.now new_counts.now) }
 {
-    if capacity(new_keys, new_counts) < m {
-        return JoinAnswer::Misplaced;
-    }
-    if places.len() < m {
-        return JoinAnswer::Misplaced;
-    }
-    if !rises(n, m, places) {
-        return JoinAnswer::Misplaced;
+    if capacity(new_keys, new_counts) < m || places.len() < m || !rises(n, m, places) {
+        return Err(JoinError::Misplaced);
     }
     let room = capacity(keys, counts);
-    if room < m {
-        return JoinAnswer::Full;
-    }
-    if room - m < n {
-        return JoinAnswer::Full;
+    if room < m || room - m < n {
+        return Err(JoinError::Full);
     }
     join_keys(n, keys, m, places, new_keys);
     join_counts(n, counts, m, places, new_counts);
-    JoinAnswer::Joined(n + m)
+    Ok(n + m)
 }

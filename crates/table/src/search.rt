@@ -4,7 +4,6 @@ ghost use Rattle.kmer.specs.Says.{value_of};
 ghost use Rattle.graph.specs.Table.{keys_of};
 ghost use Rattle.table.specs.Search.{key, place_between, find_between, find_in};
 
-use super::{Found, least};
 use kmer::Kmer;
 
 // Key i.
@@ -35,23 +34,21 @@ fn place_of(lo: usize, hi: usize, keys: &[u64], x: Kmer) -> usize
     first
 }
 
-// Where x stands between two places of the first n keys, as far as there are so many.
-pub fn find_between(n: usize, keys: &[u64], lo: usize, hi: usize, x: Kmer) -> Found
+// Where x stands between two places of the first n keys, as far as there are so many; else where it would be put in.
+pub fn find_between(n: usize, keys: &[u64], lo: usize, hi: usize, x: Kmer) -> Result<usize, usize>
     ensures { result ≡ find_between (keys_of n keys.now) lo hi (value_of x) }
 {
-    let end = least(least(hi, n), keys.len() / 2);
-    let i = place_of(least(lo, end), end, keys, x);
-    if i < end {
-        let y = key_at(keys, i);
-        if y.is_same(x) {
-            return Found::At(i);
-        }
+    let end = hi.min(n).min(keys.len() / 2);
+    let i = place_of(lo.min(end), end, keys, x);
+    if i < end && key_at(keys, i).is_same(x) {
+        Ok(i)
+    } else {
+        Err(i)
     }
-    Found::Gap(i)
 }
 
-// Where x stands among the first n keys, as far as there are so many.
-pub fn find(n: usize, keys: &[u64], x: Kmer) -> Found
+// Where x stands among the first n keys, as far as there are so many; else where it would be put in.
+pub fn find(n: usize, keys: &[u64], x: Kmer) -> Result<usize, usize>
     ensures { result ≡ find_in (keys_of n keys.now) (value_of x) }
 {
     find_between(n, keys, 0, n, x)
