@@ -2,35 +2,27 @@
 ghost use Rattle.std.specs.Prelude.{◌≡◌, ◌++◌, ◌≤◌, length, drop};
 ghost use Rattle.dna.specs.Answer.{fill};
 ghost use Rattle.label_file.specs.Output.{numbers, refusal};
+ghost use Rattle.label_file.specs.Reasons.{number_of};
 ghost use Rattle.label_file.specs.Says.{Fills, Prefixes};
 
-use super::ListAnswer;
-use dna::{Written, copy};
+use super::refusal::Refusal;
+use dna::{NoRoom, copy};
 
-// A number in decimal in front of a place; the place of its first digit.
+// A number in decimal in front of a place; the place of its first digit. By hand: `Prints` of demands says each byte,
+// and std says of what it formats no byte.
 fn put_decimal(number: usize, out: &mut [u8], at: usize) -> usize
     requires { (20 ≤ at) × (at ≤ length out.old) }
     ensures { Prefixes number out.old at result out.new }
 {
     let mut x = number;
     let mut i = at - 1;
-    out[i] = 48 + (x % 10) as u8;
+    out[i] = b'0' + (x % 10) as u8;
     while 10 <= x {
         x /= 10;
         i -= 1;
-        out[i] = 48 + (x % 10) as u8;
+        out[i] = b'0' + (x % 10) as u8;
     }
     i
-}
-
-// A line in the text, where it fits.
-pub(crate) fn put_line(line: &[u8], text: &mut [u8]) -> ListAnswer
-    ensures { Fills result text.new (fill 11 line.now text.old) }
-{
-    match copy(line, text) {
-        Written::Done(n) => ListAnswer::Printed(n),
-        Written::NoRoom => ListAnswer::NoRoom,
-    }
 }
 
 // Two numbers, a space between, and a newline, at the end of a line of 64 bytes; the place of the first digit.
@@ -49,13 +41,21 @@ fn make_line(word: &[u8], first: usize, second: usize, line: &mut [u8]) -> usize
     requires { (length word.now ≤ 22) × (length line.old ≡ 64) }
     ensures { (drop result line.new ≡ word.now ++ numbers first second) × (result ≤ 64) }
 {
-    let start = put_numbers(first, second, line) - word.len();
-    copy(word, &mut line[start..]);
+    let end = put_numbers(first, second, line);
+    let start = end - word.len();
+    line[start..end].copy_from_slice(word);
     start
 }
 
+// A line in the text, where it fits.
+pub(crate) fn put_line(line: &[u8], text: &mut [u8]) -> Result<usize, NoRoom>
+    ensures { Fills result text.new (fill 11 line.now text.old) }
+{
+    copy(line, text)
+}
+
 // A word, two numbers and a newline, in the text.
-pub(crate) fn tell(word: &[u8], first: usize, second: usize, text: &mut [u8]) -> ListAnswer
+pub(crate) fn tell(word: &[u8], first: usize, second: usize, text: &mut [u8]) -> Result<usize, NoRoom>
     requires { length word.now ≤ 22 }
     ensures { Fills result text.new (fill 11 (word.now ++ numbers first second) text.old) }
 {
@@ -64,9 +64,9 @@ pub(crate) fn tell(word: &[u8], first: usize, second: usize, text: &mut [u8]) ->
     put_line(&line[start..], text)
 }
 
-// A refusal's number and the record that it is about, in the text.
-pub(crate) fn refuse(number: usize, at: usize, text: &mut [u8]) -> ListAnswer
-    ensures { Fills result text.new (fill 11 (refusal number at) text.old) }
+// A refusal's number and its record, in the text.
+pub(crate) fn refuse(why: Refusal, text: &mut [u8]) -> Result<usize, NoRoom>
+    ensures { Fills result text.new (fill 11 (refusal (number_of why.reason) why.record) text.old) }
 {
-    tell(b"R ", number, at, text)
+    tell(b"R ", why.reason.number(), why.record, text)
 }

@@ -1,9 +1,9 @@
 -- Labels as a label file. Assumes nothing.
-use Rattle.std.specs.Prelude.{ℕ, ◌/◌, ◌%◌, cond, List, [], ◌∷◌, ◌++◌, ltb, length}
+use Rattle.std.specs.Prelude.{ℕ, ◌/◌, ◌%◌, cond, List, [], ◌∷◌, ◌++◌, ltb, length, Result, Ok, Err}
 use Rattle.dna.specs.Text.{bytes, over}
 use Rattle.label_text.specs.Lines.{is_mixed, labels_in}
-use Rattle.label_text.specs.declared.PackAnswer.{PackAnswer}
-use Rattle.label_text.specs.declared.PackAnswer.TheVariants as pack
+use Rattle.label_text.specs.declared.PackError.{PackError}
+use Rattle.label_text.specs.declared.PackError.TheVariants as pack
 
 -- The low sixteen bits of a number in two bytes, low byte first.
 abbrev pub two_bytes : ℕ → List ℕ
@@ -28,18 +28,18 @@ packed K cutoff labels = head_record K cutoff ++ label_records labels
 
 -- What packing answers, and the slice afterwards.
 pub record Packing : Type 0 where
-  pub answer : PackAnswer
+  pub answer : Result ℕ PackError
   pub slice : List ℕ
 
--- A text's label file in a slice; and, where nothing is written, that the text is mixed, that the file exceeds 16,384 bytes, or that it exceeds
--- the slice.
+-- A text's label file in a slice; and, where nothing is written, that the text is mixed, that the file exceeds 16,384
+-- bytes, or that it exceeds the slice.
 unfoldable pub pack_text : ℕ → ℕ → List ℕ → List ℕ → Packing
 pack_text K cutoff text slice =
     let file = packed K cutoff (labels_in text) in
-    cond (is_mixed text) (record { answer = pack.Mixed; slice = slice })
-    (cond (ltb 16384 (length file)) (record { answer = pack.TooLarge; slice = slice })
-    (cond (ltb (length slice) (length file)) (record { answer = pack.NoRoom; slice = slice })
-    (record { answer = pack.Packed (length file); slice = over file slice })))
+    cond (is_mixed text) (record { answer = Err pack.Mixed; slice = slice })
+    (cond (ltb 16384 (length file)) (record { answer = Err pack.TooLarge; slice = slice })
+    (cond (ltb (length slice) (length file)) (record { answer = Err pack.NoRoom; slice = slice })
+    (record { answer = Ok (length file); slice = over file slice })))
 
 -- Opens this file's definitions to a proof that computes.
 unfoldable pub open_packing : Unit {0}

@@ -1,12 +1,10 @@
 -- What the parts of packing say. Assumes nothing.
-use Rattle.std.specs.Prelude.{ℕ, ◌+◌, ◌≤◌, ◌<◌, ◌≡◌, Bool, true, false, ◌⊎◌, List, [], ◌∷◌, ◌++◌, length, get_or, take}
+use Rattle.std.specs.Prelude.{ℕ, ◌+◌, ◌≤◌, ◌<◌, ◌≡◌, Bool, true, false, ◌⊎◌, List, [], ◌∷◌, ◌++◌, length, get_or, take, Result, Ok, Err}
 use Rattle.dna.specs.Text.{part}
 use Rattle.label_text.specs.Lines.{sequences, filled, labels_in}
 use Rattle.label_text.specs.Packing.{label_records, packed}
-use Rattle.label_text.specs.declared.Size.{Size}
-use Rattle.label_text.specs.declared.Size.TheVariants as files
-use Rattle.label_text.specs.declared.Step.{Step}
-use Rattle.label_text.specs.declared.Step.TheVariants as step
+use Rattle.label_text.specs.declared.TooLarge.{TooLarge}
+use Rattle.label_text.specs.declared.packing.Open.{Open}
 
 -- The line that begins at a place goes on to r: there is no newline before, and there is one at r unless the text ends.
 pub record EndsLine (text : List ℕ) (at r : ℕ) : Type 0 where
@@ -44,9 +42,9 @@ pub record Grows (line out : List ℕ) (at size a n : ℕ) (out' : List ℕ) : T
   pub letters : part out' (a + 4) n ≡ part out (at + 4) size ++ line
 
 -- The open label has grown by a line, or the line has letters and reaches past 16,384 bytes.
-abbrev pub Joins : List ℕ → List ℕ → ℕ → ℕ → Step → List ℕ → Type 0
-Joins line out at size (step.Open a n) out' = Grows line out at size a n out'
-Joins line out at size step.TooLarge out' = (0 < length line) × (16384 < at + 4 + size + length line)
+abbrev pub Joins : List ℕ → List ℕ → ℕ → ℕ → Result Open TooLarge → List ℕ → Type 0
+Joins line out at size (Ok o) out' = Grows line out at size o.at o.size out'
+Joins line out at size (Err e) out' = (0 < length line) × (16384 < at + 4 + size + length line)
 
 -- A line is taken: the file that is to come stays the same, whatever lines follow.
 pub record Goes (fasta : Bool) (line out : List ℕ) (at size a n : ℕ) (out' : List ℕ) : Type 0 where
@@ -55,12 +53,12 @@ pub record Goes (fasta : Bool) (line out : List ℕ) (at size a n : ℕ) (out' :
   pub same : (ls : List (List ℕ)) → whole fasta out at size (line ∷ ls) ≡ whole fasta out' a n ls
 
 -- A line is taken, or the file would be larger than 16,384 bytes, whatever lines follow.
-abbrev pub Takes : Bool → List ℕ → List ℕ → ℕ → ℕ → Step → List ℕ → Type 0
-Takes fasta line out at size (step.Open a n) out' = Goes fasta line out at size a n out'
-Takes fasta line out at size step.TooLarge out' = (ls : List (List ℕ)) → 16384 < length (whole fasta out at size (line ∷ ls))
+abbrev pub Takes : Bool → List ℕ → List ℕ → ℕ → ℕ → Result Open TooLarge → List ℕ → Type 0
+Takes fasta line out at size (Ok o) out' = Goes fasta line out at size o.at o.size out'
+Takes fasta line out at size (Err e) out' = (ls : List (List ℕ)) → 16384 < length (whole fasta out at size (line ∷ ls))
 
 -- The label file of a text, from the first byte on, or that it is larger than 16,384 bytes.
-abbrev pub Measures : ℕ → ℕ → List ℕ → Size → List ℕ → Type 0
-Measures K cutoff text (files.Is n) out =
+abbrev pub Measures : ℕ → ℕ → List ℕ → Result ℕ TooLarge → List ℕ → Type 0
+Measures K cutoff text (Ok n) out =
     (n ≡ length (packed K cutoff (labels_in text))) × (n ≤ 16384) × (take n out ≡ packed K cutoff (labels_in text))
-Measures K cutoff text files.TooLarge out = 16384 < length (packed K cutoff (labels_in text))
+Measures K cutoff text (Err e) out = 16384 < length (packed K cutoff (labels_in text))

@@ -1,7 +1,6 @@
 // The lines of a text.
-ghost use Rattle.std.specs.Prelude.{◌≡◌, ◌-◌, ◌≤◌, length};
-ghost use Rattle.dna.specs.Text.{part};
-ghost use Rattle.label_text.specs.Lines.{is_header, has_mark, is_mixed, trimmed};
+ghost use Rattle.std.specs.Prelude.{◌≡◌, ◌≤◌, length};
+ghost use Rattle.label_text.specs.Lines.{is_header, is_mixed, trimmed};
 ghost use Rattle.label_text.specs.Says.{EndsLine};
 
 // Where the line that begins at a place ends: at the next newline, or with the text.
@@ -9,60 +8,29 @@ pub(crate) fn line_end(text: &[u8], at: usize) -> usize
     requires { at ≤ length text.now }
     ensures { EndsLine text.now at result }
 {
-    let mut i = at;
-    while i < text.len() {
-        if text[i] == b'\n' {
-            return i;
-        }
-        i += 1;
+    match text[at..].iter().position(|byte| *byte == b'\n') {
+        Some(size) => at + size,
+        None => text.len(),
     }
-    i
 }
 
-// Where a line ends without the carriage return before its newline.
-pub(crate) fn trimmed_end(text: &[u8], at: usize, end: usize) -> usize
-    requires { (at ≤ end) × (end ≤ length text.now) }
-    ensures { (at ≤ result) × (result ≤ end) × (part text.now at (result - at) ≡ trimmed (part text.now at (end - at))) }
+// A line without the carriage return before its newline.
+pub(crate) fn trimmed(line: &[u8]) -> &[u8]
+    ensures { result.now ≡ trimmed line.now }
 {
-    if at < end {
-        if text[end - 1] == b'\r' {
-            return end - 1;
-        }
-    }
-    end
+    line.strip_suffix(b"\r").unwrap_or(line)
 }
 
 // A line is a header.
-pub(crate) fn is_header(text: &[u8], at: usize, end: usize) -> bool
-    requires { (at ≤ end) × (end ≤ length text.now) }
-    ensures { result ≡ is_header (part text.now at (end - at)) }
+pub(crate) fn is_header(line: &[u8]) -> bool
+    ensures { result ≡ is_header line.now }
 {
-    if at < end {
-        return text[at] == b'>';
-    }
-    false
+    line.starts_with(b">")
 }
 
-// A header's first byte stands somewhere.
-fn has_mark(text: &[u8]) -> bool
-    ensures { result ≡ has_mark text.now }
-{
-    let mut i = 0;
-    while i < text.len() {
-        if text[i] == b'>' {
-            return true;
-        }
-        i += 1;
-    }
-    false
-}
-
-// Such a byte, but not at the beginning.
+// A header's first byte stands somewhere, but not at the beginning.
 pub(crate) fn is_mixed(text: &[u8]) -> bool
     ensures { result ≡ is_mixed text.now }
 {
-    if is_header(text, 0, text.len()) {
-        return false;
-    }
-    has_mark(text)
+    !is_header(text) && text.contains(&b'>')
 }

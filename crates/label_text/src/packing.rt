@@ -1,32 +1,35 @@
 // A label file made from a text.
-ghost use Rattle.std.specs.Prelude.{◌≡◌, false, ◌-◌, ◌≤◌, length};
-ghost use Rattle.dna.specs.Text.{over, part};
+ghost use Rattle.std.specs.Prelude.{◌≡◌, false, ◌≤◌, length};
+ghost use Rattle.dna.specs.Text.{over};
 ghost use Rattle.label_text.specs.Packing.{head_record, pack_text};
 ghost use Rattle.label_text.specs.Says.{Room, Closes, Joins, Takes, Measures};
 
-use super::{PackAnswer, Size, Step, lines};
-use dna::{Written, copy};
+use super::{PackError, TooLarge, lines};
+use dna::copy;
+
+// The record that is being written: its place and the size of its label, whose letters stand four bytes behind it.
+#[derive(Clone, Copy)]
+struct Open {
+    at: usize,
+    size: usize,
+}
 
 // The `KC` record.
 fn put_head(k: u8, cutoff: u32, out: &mut [u8])
     requires { 7 ≤ length out.old }
     ensures { out.new ≡ over (head_record k cutoff) out.old }
 {
-    out[0] = b'K';
-    out[1] = b'C';
+    out[..2].copy_from_slice(b"KC");
     out[2] = k;
-    out[3] = (cutoff % 256) as u8;
-    out[4] = (cutoff / 256 % 256) as u8;
-    out[5] = (cutoff / 65536 % 256) as u8;
-    out[6] = (cutoff / 65536 / 256 % 256) as u8;
+    out[3..7].copy_from_slice(&cutoff.to_le_bytes());
 }
 
-// The mark and the length in front of a label whose letters stand four bytes behind a place; where the next record begins. An empty
-// label is left out.
-fn close(out: &mut [u8], at: usize, size: usize) -> usize
-    requires { Room out.old at size }
-    ensures { Closes out.old at size result out.new }
+// The mark and the length in front of the open label; where the next record begins. An empty label is left out.
+fn close(out: &mut [u8], open: Open) -> usize
+    requires { Room out.old open.at open.size }
+    ensures { Closes out.old open.at open.size result out.new }
 {
+    let Open { at, size } = open;
     if size == 0 {
         return at;
     }
@@ -38,83 +41,68 @@ fn close(out: &mut [u8], at: usize, size: usize) -> usize
 }
 
 // A line's letters behind those of the open label, where they lie within 16,384 bytes.
-fn add_letters(text: &[u8], from: usize, to: usize, out: &mut [u8], at: usize, size: usize) -> Step
-    requires { (from ≤ to) × (to ≤ length text.now) × Room out.old at size }
-    ensures { Joins (part text.now from (to - from)) out.old at size result out.new }
+fn add_letters(line: &[u8], out: &mut [u8], open: Open) -> Result<Open, TooLarge>
+    requires { Room out.old open.at open.size }
+    ensures { Joins line.now out.old open.at open.size result out.new }
 {
-    if from == to {
-        return Step::Open(at, size);
+    let Open { at, size } = open;
+    if line.is_empty() {
+        return Ok(open);
     }
     let start = at + 4 + size;
-    let end = start + (to - from);
-    if 16384 < end {
-        return Step::TooLarge;
+    if 16384 < start + line.len() {
+        return Err(TooLarge);
     }
-    copy(&text[from..to], &mut out[start..end]);
-    Step::Open(at, size + (to - from))
+    let end = start + line.len();
+    out[start..end].copy_from_slice(line);
+    Ok(Open {
+        at,
+        size: size + line.len(),
+    })
 }
 
 // One line: a header of FASTA closes the label, another line is joined to it; in a plain text a line is a label.
-fn pack_line(
-    text: &[u8],
-    from: usize,
-    to: usize,
-    fasta: bool,
-    out: &mut [u8],
-    at: usize,
-    size: usize,
-) -> Step
-    requires { (from ≤ to) × (to ≤ length text.now) × Room out.old at size × (fasta ≡ false → size ≡ 0) }
-    ensures { Takes fasta (part text.now from (to - from)) out.old at size result out.new }
+fn pack_line(line: &[u8], fasta: bool, out: &mut [u8], open: Open) -> Result<Open, TooLarge>
+    requires { Room out.old open.at open.size × (fasta ≡ false → open.size ≡ 0) }
+    ensures { Takes fasta line.now out.old open.at open.size result out.new }
 {
-    if fasta {
-        if lines::is_header(text, from, to) {
-            return Step::Open(close(out, at, size), 0);
-        }
-        return add_letters(text, from, to, out, at, size);
+    if fasta && lines::is_header(line) {
+        let at = close(out, open);
+        return Ok(Open { at, size: 0 });
     }
-    let Step::Open(start, n) = add_letters(text, from, to, out, at, size) else {
-        return Step::TooLarge;
-    };
-    Step::Open(close(out, start, n), 0)
+    let grown = add_letters(line, out, open)?;
+    if fasta {
+        return Ok(grown);
+    }
+    let at = close(out, grown);
+    Ok(Open { at, size: 0 })
 }
 
-// The file in 16,384 bytes lent for it, where it is not larger.
-fn pack_lines(text: &[u8], k: u8, cutoff: u32, out: &mut [u8]) -> Size
+// The file in 16,384 bytes lent for it, where it is not larger; its size.
+fn pack_lines(text: &[u8], k: u8, cutoff: u32, out: &mut [u8]) -> Result<usize, TooLarge>
     requires { length out.old ≡ 16384 }
     ensures { Measures k cutoff text.now result out.new }
 {
     put_head(k, cutoff, out);
-    let fasta = lines::is_header(text, 0, text.len());
-    let mut at = 7;
-    let mut size = 0;
+    let fasta = lines::is_header(text);
+    let mut open = Open { at: 7, size: 0 };
     let mut i = 0;
     while i <= text.len() {
         let end = lines::line_end(text, i);
-        let stop = lines::trimmed_end(text, i, end);
-        let Step::Open(a, n) = pack_line(text, i, stop, fasta, out, at, size) else {
-            return Size::TooLarge;
-        };
-        at = a;
-        size = n;
+        open = pack_line(lines::trimmed(&text[i..end]), fasta, out, open)?;
         i = end + 1;
     }
-    Size::Is(close(out, at, size))
+    Ok(close(out, open))
 }
 
 // The label file of a text, from the slice's first byte on.
-pub fn pack(text: &[u8], k: u8, cutoff: u32, out: &mut [u8]) -> PackAnswer
+pub fn pack(text: &[u8], k: u8, cutoff: u32, out: &mut [u8]) -> Result<usize, PackError>
     ensures { record { answer = result; slice = out.new } ≡ pack_text k cutoff text.now out.old }
 {
     if lines::is_mixed(text) {
-        return PackAnswer::Mixed;
+        return Err(PackError::Mixed);
     }
     let mut file = [0u8; 16384];
-    let Size::Is(n) = pack_lines(text, k, cutoff, &mut file) else {
-        return PackAnswer::TooLarge;
-    };
-    match copy(&file[..n], out) {
-        Written::Done(size) => PackAnswer::Packed(size),
-        Written::NoRoom => PackAnswer::NoRoom,
-    }
+    let size = pack_lines(text, k, cutoff, &mut file)?;
+    Ok(copy(&file[..size], out)?)
 }
