@@ -1,20 +1,10 @@
--- What this crate's k-mers and enums say in document 01's terms. Assumes nothing.
-use Rattle.std.specs.Prelude.{ℕ, ◌≡◌, Bool, List, [], ◌∷◌, get_or}
+-- What this crate's k-mers and results say in document 01's terms. Assumes nothing.
+use Rattle.std.specs.Prelude.{ℕ, ◌≡◌, List, [], ◌∷◌, get_or, Result, Ok, Err, IfOk}
 use Rattle.dna.specs.Answer.{Answer, gives, refuses, Filled}
-use Rattle.dna.specs.Calls.{code_in}
 use Rattle.kmer.specs.Kmer.{low, high, joined}
 use Rattle.kmer.specs.declared.Kmer.{Kmer}
 use Rattle.kmer.specs.declared.KmerError.{KmerError}
 use Rattle.kmer.specs.declared.KmerError.TheVariants as error
-use Rattle.kmer.specs.declared.KmerAnswer.{KmerAnswer}
-use Rattle.kmer.specs.declared.KmerAnswer.TheVariants as kmer
-use Rattle.kmer.specs.declared.Answered.{Answered}
-use Rattle.kmer.specs.declared.BaseAnswer.{BaseAnswer}
-use Rattle.kmer.specs.declared.BaseAnswer.TheVariants as base
-use Rattle.kmer.specs.declared.TestAnswer.{TestAnswer}
-use Rattle.kmer.specs.declared.TestAnswer.TheVariants as test
-use Rattle.kmer.specs.declared.LettersAnswer.{LettersAnswer}
-use Rattle.kmer.specs.declared.LettersAnswer.TheVariants as letters
 
 -- The number that a k-mer holds.
 abbrev pub value_of : Kmer → ℕ
@@ -33,42 +23,26 @@ refusal error.NoRoom = refuses 9 []
 refusal error.OutOfRange = refuses 10 []
 refusal error.NotBelow = refuses 14 []
 
--- An answer where the call was done; a refusal where it was refused.
-abbrev pub says_then : {A : Type 0} → KmerAnswer → Answer A → Answer A
-says_then kmer.Done answer = answer
-says_then (kmer.Refused e) answer = refusal e
+-- What a call says: f of the value that it returns, or its refusal.
+abbrev pub says : {A B : Type 0} → (A → B) → Result A KmerError → Answer B
+says f (Ok a) = gives (f a)
+says f (Err e) = refusal e
 
 -- The answer of a call that has only to say that it was not refused.
 abbrev pub done : Answer (Unit {0})
 done = gives tt
-
-abbrev pub says_base : BaseAnswer → Answer ℕ
-says_base (base.Found b) = gives (code_in b)
-says_base (base.Refused e) = refusal e
-
-abbrev pub says_test : TestAnswer → Answer Bool
-says_test (test.Is t) = gives t
-says_test (test.Refused e) = refusal e
-
-abbrev pub says_letters : LettersAnswer → Answer ℕ
-says_letters (letters.Written n) = gives n
-says_letters (letters.Refused e) = refusal e
 
 -- The number in an answer; zero in a refusal.
 abbrev pub number_in : Answer ℕ → ℕ
 number_in (gives n) = n
 number_in (refuses r values) = 0
 
--- What a refused call returns: its refusal, with the zero k-mer beside it.
-abbrev pub refused_by : KmerError → Answered
-refused_by e = record { answer = kmer.Refused e; kmer = kmer_of 0 }
-
--- A call that makes a k-mer: what it says, and which k-mer stands beside that, the zero k-mer beside a refusal.
-pub record Answers (r : Answered) (a : Answer ℕ) : Type 0 where
-  pub answer : says_then r.answer (gives (value_of r.kmer)) ≡ a
-  pub beside : r.kmer ≡ kmer_of (number_in a)
+-- A call that makes a k-mer: what it says, and which k-mer it returns where it is not refused.
+pub record Answers (r : Result Kmer KmerError) (a : Answer ℕ) : Type 0 where
+  pub answer : says value_of r ≡ a
+  pub kmer : IfOk r (λ x. x ≡ kmer_of (number_in a))
 
 -- A call that writes a k-mer's letters: what it says, and the slice at exit.
-pub record Spells (r : LettersAnswer) (out : List ℕ) (f : Filled) : Type 0 where
-  pub answer : says_letters r ≡ f.answer
+pub record Spells (r : Result ℕ KmerError) (out : List ℕ) (f : Filled) : Type 0 where
+  pub answer : says (λ n. n) r ≡ f.answer
   pub slice : out ≡ f.slice

@@ -3,9 +3,9 @@ ghost use Rattle.std.specs.Prelude.{◌≡◌, ◌-◌, ◌/◌, ◌%◌, ◌^�
 ghost use Rattle.dna.specs.Calls.{code_in};
 ghost use Rattle.kmer.specs.Bits.{bits_from};
 ghost use Rattle.kmer.specs.Calls.{get_call};
-ghost use Rattle.kmer.specs.Says.{value_of, says_base};
+ghost use Rattle.kmer.specs.Says.{value_of, says};
 
-use super::{BaseAnswer, Kmer, KmerAnswer, verdict};
+use super::{Kmer, KmerError, verdict};
 use dna::Base;
 
 // The bits of a k-mer from a place on, as far as the word goes where they begin.
@@ -21,52 +21,31 @@ pub(crate) fn bits_from(x: Kmer, shift: usize) -> u64
 }
 
 // The bits of the base with j bases behind it.
-pub(crate) fn digit(x: Kmer, j: usize) -> u64
+pub(crate) fn digit(x: Kmer, j: usize) -> u8
     requires { j < 64 }
     ensures { result ≡ value_of x / 4 ^ j % 4 }
 {
-    bits_from(x, 2 * j) & 3
-}
-
-pub(crate) fn base_of(bits: u64) -> Base
-    requires { bits < 4 }
-    ensures { code_in result ≡ bits }
-{
-    match bits {
-        0 => Base::A,
-        1 => Base::C,
-        2 => Base::G,
-        _ => Base::T,
-    }
-}
-
-// The place of the last base; 0 where K is 0, which `get` refuses.
-fn last(k: usize) -> usize
-    ensures { result ≡ k - 1 }
-{
-    if k == 0 { 0 } else { k - 1 }
+    (bits_from(x, 2 * j) & 3) as u8
 }
 
 impl Kmer {
     // The base at a place, the first at 0.
-    pub fn get(self, k: usize, idx: usize) -> BaseAnswer
-        ensures { says_base result ≡ get_call k (value_of self) idx }
+    pub fn get(self, k: usize, idx: usize) -> Result<Base, KmerError>
+        ensures { says code_in result ≡ get_call k (value_of self) idx }
     {
-        match verdict::verdict_below(k, self, k, idx) {
-            KmerAnswer::Refused(e) => BaseAnswer::Refused(e),
-            KmerAnswer::Done => BaseAnswer::Found(base_of(digit(self, k - 1 - idx))),
-        }
+        verdict::verdict_below(k, self, k, idx)?;
+        Ok(Base::from_bits(digit(self, k - 1 - idx)))
     }
 
-    pub fn front(self, k: usize) -> BaseAnswer
-        ensures { says_base result ≡ get_call k (value_of self) 0 }
+    pub fn front(self, k: usize) -> Result<Base, KmerError>
+        ensures { says code_in result ≡ get_call k (value_of self) 0 }
     {
         self.get(k, 0)
     }
 
-    pub fn back(self, k: usize) -> BaseAnswer
-        ensures { says_base result ≡ get_call k (value_of self) (k - 1) }
+    pub fn back(self, k: usize) -> Result<Base, KmerError>
+        ensures { says code_in result ≡ get_call k (value_of self) (k - 1) }
     {
-        self.get(k, last(k))
+        self.get(k, k.saturating_sub(1))
     }
 }

@@ -7,17 +7,16 @@ ghost use Rattle.kmer.specs.Bits.{four_at};
 ghost use Rattle.kmer.specs.Calls.{letters_call};
 ghost use Rattle.kmer.specs.Says.{value_of, Spells};
 
-use super::{Kmer, KmerAnswer, KmerError, LettersAnswer, bases, quads, verdict};
+use super::{Kmer, KmerError, bases, quads, verdict};
+use dna::Base;
 
 // The first n letters, one by one.
 fn leading(k: usize, x: Kmer, n: usize, out: &mut [u8])
     requires { (k ≤ 63) × (n ≤ k) × (n ≤ length out.old) }
     ensures { Built (letters k (value_of x)) out.old out.new n }
 {
-    let mut i: usize = 0;
-    while i < n {
-        out[i] = bases::base_of(bases::digit(x, k - 1 - i)).to_ascii();
-        i += 1;
+    for (i, cell) in out[..n].iter_mut().enumerate() {
+        *cell = Base::from_bits(bases::digit(x, k - 1 - i)).to_ascii();
     }
 }
 
@@ -29,21 +28,12 @@ fn byte_of(x: Kmer, j: usize) -> u8
     (bases::bits_from(x, 8 * j) & 0xff) as u8
 }
 
-fn low_byte(word: u32) -> u8
-    ensures { result ≡ word % 2 ^ 8 }
-{
-    (word & 0xff) as u8
-}
-
 // Four letters, the first in the lowest byte.
 fn put_quad(quad: u32, at: usize, out: &mut [u8])
     requires { at + 4 ≤ length out.old }
     ensures { out.new ≡ four_at out.old at (quad % 2 ^ 8) (quad / 2 ^ 8 % 2 ^ 8) (quad / 2 ^ 16 % 2 ^ 8) (quad / 2 ^ 24 % 2 ^ 8) }
 {
-    out[at] = low_byte(quad);
-    out[at + 1] = low_byte(quad >> 8);
-    out[at + 2] = low_byte(quad >> 16);
-    out[at + 3] = low_byte(quad >> 24);
+    out[at..at + 4].copy_from_slice(&quad.to_le_bytes());
 }
 
 // The K mod 4 leading letters one by one, then four letters for each byte.
@@ -54,28 +44,22 @@ fn write(k: usize, x: Kmer, out: &mut [u8])
     leading(k, x, k % 4, out);
     let quads = quads::table();
     let count = k / 4;
-    let mut i: usize = 0;
-    while i < count {
+    for i in 0..count {
         let byte = byte_of(x, count - 1 - i);
         put_quad(quads[byte as usize], k % 4 + 4 * i, out);
-        i += 1;
     }
 }
 
 impl Kmer {
     // The letters, first base first, from out's first cell on.
-    pub fn append_ascii(self, k: usize, out: &mut [u8]) -> LettersAnswer
+    pub fn append_ascii(self, k: usize, out: &mut [u8]) -> Result<usize, KmerError>
         ensures { Spells result out.new (letters_call k (value_of self) out.old) }
     {
-        match verdict::verdict(k, self) {
-            KmerAnswer::Refused(e) => LettersAnswer::Refused(e),
-            KmerAnswer::Done => {
-                if out.len() < k {
-                    return LettersAnswer::Refused(KmerError::NoRoom);
-                }
-                write(k, self, out);
-                LettersAnswer::Written(k)
-            }
+        verdict::verdict(k, self)?;
+        if out.len() < k {
+            return Err(KmerError::NoRoom);
         }
+        write(k, self, out);
+        Ok(k)
     }
 }

@@ -18,7 +18,7 @@ mod words;
 pub use quads::ASCII_QUADS;
 
 // The bases as a number in base 4, the first most significant, in two words, low word first.
-#[derive(Clone, Copy)]
+#[derive(Clone, Copy, PartialEq, Eq, Debug)]
 pub struct Kmer {
     pub words: [u64; 2],
 }
@@ -38,7 +38,7 @@ impl Kmer {
 }
 
 // Why a call was refused; `refusal` of specs/Says.antt gives each its number.
-#[derive(Clone, Copy)]
+#[derive(Clone, Copy, PartialEq, Eq, Debug)]
 pub enum KmerError {
     UnsupportedK(usize),
     TooShort(usize),
@@ -46,36 +46,4 @@ pub enum KmerError {
     NoRoom,
     OutOfRange,
     NotBelow,
-}
-
-// What a call that makes a k-mer says; the k-mer stands beside it.
-#[derive(Clone, Copy)]
-pub enum KmerAnswer {
-    Done,
-    Refused(KmerError),
-}
-
-// A k-mer beside what the call says; it is the zero k-mer beside a refusal.
-#[derive(Clone, Copy)]
-pub struct Answered {
-    pub answer: KmerAnswer,
-    pub kmer: Kmer,
-}
-
-#[derive(Clone, Copy)]
-pub enum BaseAnswer {
-    Found(dna::Base),
-    Refused(KmerError),
-}
-
-#[derive(Clone, Copy)]
-pub enum TestAnswer {
-    Is(bool),
-    Refused(KmerError),
-}
-
-#[derive(Clone, Copy)]
-pub enum LettersAnswer {
-    Written(usize),
-    Refused(KmerError),
 }

@@ -1,37 +1,33 @@
 // A k-mer from letters, and from two words.
 ghost use Rattle.std.specs.Prelude.{◌≡◌, [], ◌≤◌, length, take};
-ghost use Rattle.dna.specs.Answer.{gives};
 ghost use Rattle.dna.specs.Letters.{first_bad};
 ghost use Rattle.kmer.specs.Kmer.{packed};
 ghost use Rattle.kmer.specs.Packing.{valid_packed, Packs};
 ghost use Rattle.kmer.specs.Calls.{pack_bases, pack_call, words_call};
-ghost use Rattle.kmer.specs.Says.{says_then, Answers};
+ghost use Rattle.kmer.specs.Says.{says, Answers};
 
 use super::eights::Packed;
-use super::{Answered, Kmer, KmerAnswer, KmerError, eights, verdict, words};
+use super::{Kmer, KmerError, eights, verdict, words};
 
 // The first letter that is no base is refused.
-fn bases_verdict(seq: &[u8]) -> KmerAnswer
-    ensures { says_then result (gives (packed seq.now)) ≡ pack_bases seq.now (first_bad 0 seq.now) }
+fn bases_verdict(seq: &[u8]) -> Result<(), KmerError>
+    ensures { says (λ _. packed seq.now) result ≡ pack_bases seq.now (first_bad 0 seq.now) }
 {
-    let mut place = 0;
-    while place < seq.len() {
-        let byte = seq[place];
+    for (place, &byte) in seq.iter().enumerate() {
         if !dna::is_dna_ascii(byte) {
-            return KmerAnswer::Refused(KmerError::InvalidBase { place, byte });
+            return Err(KmerError::InvalidBase { place, byte });
         }
-        place += 1;
     }
-    KmerAnswer::Done
+    Ok(())
 }
 
 // What the quick test found strange is tested letter by letter.
-fn letters_verdict(strange: u64, seq: &[u8]) -> KmerAnswer
+fn letters_verdict(strange: u64, seq: &[u8]) -> Result<(), KmerError>
     requires { strange ≡ 0 → first_bad 0 seq.now ≡ [] }
-    ensures { says_then result (gives (packed seq.now)) ≡ pack_bases seq.now (first_bad 0 seq.now) }
+    ensures { says (λ _. packed seq.now) result ≡ pack_bases seq.now (first_bad 0 seq.now) }
 {
     if strange == 0 {
-        return KmerAnswer::Done;
+        return Ok(());
     }
     bases_verdict(seq)
 }
@@ -42,10 +38,8 @@ fn word_of(seq: &[u8]) -> u64
     ensures { result ≡ valid_packed seq.now }
 {
     let mut word = 0;
-    let mut i = 0;
-    while i < seq.len() {
-        word = words::push_low(word, dna::valid_ascii_base_bits(seq[i]) as u64);
-        i += 1;
+    for &byte in seq {
+        word = words::push_low(word, dna::valid_ascii_base_bits(byte) as u64);
     }
     word
 }
@@ -68,36 +62,25 @@ fn pack(k: usize, seq: &[u8]) -> Packed
 
 impl Kmer {
     // The first K letters; what stands behind them is ignored.
-    pub fn from_ascii(k: usize, seq: &[u8]) -> Answered
+    pub fn from_ascii(k: usize, seq: &[u8]) -> Result<Kmer, KmerError>
         ensures { Answers result (pack_call k seq.now) }
     {
         if !verdict::supported(k) {
-            return verdict::refused(KmerError::UnsupportedK(k));
+            return Err(KmerError::UnsupportedK(k));
         }
         if seq.len() < k {
-            return verdict::refused(KmerError::TooShort(seq.len()));
+            return Err(KmerError::TooShort(seq.len()));
         }
         let p = pack(k, seq);
-        let x = p.kmer;
-        match letters_verdict(p.strange, &seq[..k]) {
-            KmerAnswer::Refused(e) => verdict::refused(e),
-            KmerAnswer::Done => Answered {
-                answer: KmerAnswer::Done,
-                kmer: x,
-            },
-        }
+        letters_verdict(p.strange, &seq[..k])?;
+        Ok(p.kmer)
     }
 
-    pub fn from_words(k: usize, low: u64, high: u64) -> Answered
+    pub fn from_words(k: usize, low: u64, high: u64) -> Result<Kmer, KmerError>
         ensures { Answers result (words_call k low high) }
     {
         let x = Kmer { words: [low, high] };
-        match verdict::verdict(k, x) {
-            KmerAnswer::Refused(e) => verdict::refused(e),
-            KmerAnswer::Done => Answered {
-                answer: KmerAnswer::Done,
-                kmer: x,
-            },
-        }
+        verdict::verdict(k, x)?;
+        Ok(x)
     }
 }

@@ -4,7 +4,7 @@ ghost use Rattle.kmer.specs.Kmer.{rc};
 ghost use Rattle.kmer.specs.Calls.{reverse_call};
 ghost use Rattle.kmer.specs.Says.{value_of, kmer_of, Answers};
 
-use super::{Answered, Kmer, KmerAnswer, verdict};
+use super::{Kmer, KmerError, verdict};
 
 // The 32 bases of a word, the last first: neighbours change places, then pairs, fours, eights and halves. The contract says it of the
 // reverse complement, which is what `!` makes of the result.
@@ -38,15 +38,10 @@ pub(crate) fn reversed(k: usize, x: Kmer) -> Kmer
 }
 
 impl Kmer {
-    pub fn reverse_complement(self, k: usize) -> Answered
+    pub fn reverse_complement(self, k: usize) -> Result<Kmer, KmerError>
         ensures { Answers result (reverse_call k (value_of self)) }
     {
-        match verdict::verdict(k, self) {
-            KmerAnswer::Refused(e) => verdict::refused(e),
-            KmerAnswer::Done => Answered {
-                answer: KmerAnswer::Done,
-                kmer: reversed(k, self),
-            },
-        }
+        verdict::verdict(k, self)?;
+        Ok(reversed(k, self))
     }
 }

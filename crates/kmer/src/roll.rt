@@ -5,7 +5,7 @@ ghost use Rattle.kmer.specs.Kmer.{forward, backward};
 ghost use Rattle.kmer.specs.Calls.{forward_call, backward_call};
 ghost use Rattle.kmer.specs.Says.{value_of, kmer_of, Answers};
 
-use super::{Answered, Kmer, KmerAnswer, verdict, words};
+use super::{Kmer, KmerError, verdict, words};
 use dna::Base;
 
 // Both words move up a base; the top base of the low word enters the high word, and what is past K bases is masked off.
@@ -44,30 +44,20 @@ fn backward(k: usize, x: Kmer, bits: u64) -> Kmer
 
 impl Kmer {
     // The first base dropped, one appended.
-    pub fn roll_forward(self, k: usize, next: Base) -> Answered
+    pub fn roll_forward(self, k: usize, next: Base) -> Result<Kmer, KmerError>
         ensures { Answers result (forward_call k (value_of self) (code_in next)) }
     {
         let bits = next.bits();
-        match verdict::verdict_below(k, self, 4, bits as usize) {
-            KmerAnswer::Refused(e) => verdict::refused(e),
-            KmerAnswer::Done => Answered {
-                answer: KmerAnswer::Done,
-                kmer: forward(k, self, bits as u64),
-            },
-        }
+        verdict::verdict_below(k, self, 4, bits as usize)?;
+        Ok(forward(k, self, bits as u64))
     }
 
     // The last base dropped, one put in front.
-    pub fn roll_backward(self, k: usize, prev: Base) -> Answered
+    pub fn roll_backward(self, k: usize, prev: Base) -> Result<Kmer, KmerError>
         ensures { Answers result (backward_call k (value_of self) (code_in prev)) }
     {
         let bits = prev.bits();
-        match verdict::verdict_below(k, self, 4, bits as usize) {
-            KmerAnswer::Refused(e) => verdict::refused(e),
-            KmerAnswer::Done => Answered {
-                answer: KmerAnswer::Done,
-                kmer: backward(k, self, bits as u64),
-            },
-        }
+        verdict::verdict_below(k, self, 4, bits as usize)?;
+        Ok(backward(k, self, bits as u64))
     }
 }
