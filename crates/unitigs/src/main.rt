@@ -4,20 +4,10 @@
 ghost use Rattle.std.specs.Prelude.{◌≡◌, ◌≤◌, length, take, replicate};
 ghost use Rattle.label_file.specs.Output.{unitigs};
 
-use label_file::ListAnswer;
-use reading::Input;
+use reading::program::{complain, print};
 use std::io;
 
-fn complain(rt: &impl Eprint, what: &str) -> io::Result<()> {
-    rt.eprintln(what)
-}
-
-fn print(rt: &(impl Print + Eprint), text: &[u8]) -> io::Result<()> {
-    match rt.write_all(text) {
-        Ok(()) => Ok(()),
-        Err(_) => complain(rt, "unitigs: standard output could not be written"),
-    }
-}
+const NAME: &str = "unitigs";
 
 // What is to be printed for a file, in a text of zeros; the other buffers are filled with zeros here. The answer is
 // its size.
@@ -31,7 +21,7 @@ fn list(file: &[u8], text: &mut [u8]) -> usize
     let mut starts = [0u32; 1024];
     let mut lengths = [0u32; 1024];
     let mut marks = [0u8; 1024];
-    match label_file::list_unitigs(
+    let printed = label_file::list_unitigs(
         file,
         &mut keys,
         &mut counts,
@@ -40,19 +30,17 @@ fn list(file: &[u8], text: &mut [u8]) -> usize
         &mut lengths,
         &mut marks,
         text,
-    ) {
-        ListAnswer::Printed(n) => n,
-        ListAnswer::NoRoom => 0,
-    }
+    );
+    printed.unwrap_or(0)
 }
 
 // A buffer one byte larger than the largest file tells one that is too large.
 fn main(rt: HostRuntime) -> io::Result<()> {
     let mut file = [0u8; 16385];
-    let Input::Bytes(n) = reading::read_input(&rt, &mut file) else {
-        return complain(&rt, "unitigs: standard input could not be read");
+    let Ok(n) = reading::read_input(&rt, &mut file) else {
+        return complain(&rt, NAME, "standard input could not be read");
     };
     let mut text = [0u8; 8192];
     let size = list(&file[..n], &mut text);
-    print(&rt, &text[..size])
+    print(&rt, NAME, &text[..size])
 }
