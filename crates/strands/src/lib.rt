@@ -8,19 +8,13 @@ ghost use Rattle.graph.specs.Labels.{lesser};
 
 use dna::complement_ascii;
 
-// The reverse complement in the label's own cells: its two ends are exchanged, and on inwards.
+// The reverse complement in the label's own cells.
 pub fn turn(label: &mut [u8])
     ensures { label.new ≡ reverse_complement label.old }
 {
-    let n = label.len();
-    let mut i = 0;
-    while i < n - n / 2 {
-        let j = n - 1 - i;
-        let x = complement_ascii(label[i]);
-        let y = complement_ascii(label[j]);
-        label[i] = y;
-        label[j] = x;
-        i += 1;
+    label.reverse();
+    for byte in label.iter_mut() {
+        *byte = complement_ascii(*byte);
     }
 }
 
@@ -28,23 +22,12 @@ pub fn turn(label: &mut [u8])
 pub fn is_above(label: &[u8]) -> bool
     ensures { result ≡ before (reverse_complement label.now) label.now }
 {
-    let n = label.len();
-    let mut i = 0;
-    while i < n {
-        let x = complement_ascii(label[n - 1 - i]);
-        let y = label[i];
-        if x < y {
-            return true;
-        }
-        if y < x {
-            return false;
-        }
-        i += 1;
-    }
-    false
+    let other = label.iter().rev().map(|byte| complement_ascii(*byte));
+    other.cmp(label.iter().copied()).is_lt()
 }
 
 // The smaller of a label and its reverse complement.
+#[tactic(auto, using(graph::proofs::Labels::lesser_turned, graph::proofs::Labels::lesser_kept))]
 pub fn canonical_label(label: &mut [u8])
     ensures { label.new ≡ lesser label.old }
 {

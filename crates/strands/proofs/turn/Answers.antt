@@ -1,16 +1,22 @@
-use mathlib.Core.Path.{refl}
-use native.Mathlib.Omega.{arith}
-use Rattle.strands.proofs.Turning.{turned_none, turned_more, turned_all}
+use Rattle.std.proofs.Common.{◌<◌, map, length, get_or, set, ap, ◌∙◌, arith, take_all}
+use Rattle.std.proofs.lemmas.List.{get_or_default, drop_all}
+use Rattle.std.proofs.lemmas.List.Edits.{map_over_more}
+use mathlib.Core.List.{append-nil}
+use Rattle.dna.specs.Letters.{complement_letter}
+use Rattle.strands.proofs.Turning.{turned_is}
 use Rattle.strands.proofs.turn.Goals as goal
 
-pub loop-i-init : goal.loop-i-init
-loop-i-init c = (refl, turned_none _)
-
-pub loop-i-preserved : goal.loop-i-preserved
-loop-i-preserved c =
-    let l = c.loop-i in
-    let x = c.complement_ascii-x in
-    (refl, turned_more l.invariant.1 _ _ _ (omega arith) (omega arith) x.ensures c.complement_ascii-y.ensures)
+pub loop-byte-preserved : goal.loop-byte-preserved
+loop-byte-preserved c =
+    let l = c.loop-byte in
+    let within : l.byte-index < length l.label = omega arith in
+    let mapped = map_over_more complement_letter c.reverse.new.self l.label l.byte-index (get_or l.label l.byte-index 0) (omega arith) l.invariant
+    (get_or_default l.label l.byte-index 0 _ within) in
+    ap (set l.label l.byte-index) c.complement_ascii.ensures ∙ mapped
 
 pub returns : goal.returns
-returns c = turned_all c.loop-i.invariant.1 (omega arith)
+returns c =
+    let l = c.loop-byte in
+    let e = take_all l.byte-index c.reverse.new.self (omega arith) in
+    let n = drop_all l.byte-index c.reverse.new.self (omega arith) in
+    l.invariant ∙ rw (e, n) (append-nil _ ∙ ap (map complement_letter) c.reverse.ensures.after ∙ turned_is c.args.label.now)

@@ -1,12 +1,7 @@
--- Each turn exchanges two more places. Assumes nothing.
-use mathlib.Core.Path.{◌≡◌}
-use Prim.Native.Nat.{◌-◌}
-use lib.ListN.{length}
-use Rattle.strands.proofs.Turning.{Turned}
+-- Each turn complements one more letter. Assumes nothing.
+use Rattle.std.proofs.Common.{◌≡◌, ◌++◌, map, take, drop}
+use Rattle.dna.specs.Letters.{complement_letter}
 use Rattle.strands.proofs.turn.Given as goal
 
-abbrev pub invariant-loop-i : goal.invariant-loop-i
-invariant-loop-i l = (l.n ≡ length l.initial.label) × Turned l.initial.label l.label l.i
-
-abbrev pub decreases-loop-i : goal.decreases-loop-i
-decreases-loop-i l = l.n - l.i
+abbrev pub invariant-loop-byte : goal.invariant-loop-byte
+invariant-loop-byte l = l.label ≡ map complement_letter (take l.byte-index l.initial.label) ++ drop l.byte-index l.initial.label
