@@ -28,6 +28,7 @@ pub struct NoRoom;
 pub const INVALID_BASE_BITS: u8 = 4;
 
 impl Base {
+    #[tactic(auto, unfolding(crate::specs::Letters::complement))]
     pub fn complement(self) -> Base
         ensures { code_in result ≡ complement (code_in self) }
     {
@@ -41,6 +42,7 @@ impl Base {
         }
     }
 
+    #[tactic(auto, unfolding(crate::specs::Letters::letter_of))]
     pub fn to_ascii(self) -> u8
         ensures { result ≡ letter_of (code_in self) }
     {
@@ -68,6 +70,7 @@ impl Base {
         }
     }
 
+    #[tactic(auto, using(crate::proofs::Letters::valid_code, crate::proofs::Letters::no_base))]
     pub fn from_ascii(byte: u8) -> Base
         ensures { code_in result ≡ code_of byte }
     {
@@ -109,6 +112,7 @@ pub fn complement_ascii(byte: u8) -> u8
 }
 
 // The two bits of a byte that is a base.
+#[tactic(auto, using(crate::proofs::Letters::valid_code))]
 pub fn ascii_base_bits(byte: u8) -> Option<u8>
     ensures { result ≡ bits_where (λ c. c) byte }
 {
@@ -123,6 +127,7 @@ pub fn valid_ascii_base_bits(byte: u8) -> u8
 }
 
 // The two bits of the complement of a byte that is a base.
+#[tactic(auto, using(crate::proofs::Letters::xor_three))]
 pub fn ascii_complement_bits(byte: u8) -> Option<u8>
     ensures { result ≡ bits_where complement byte }
 {

@@ -1,14 +1,7 @@
--- Each turn writes one more cell of the reverse complement. Assumes nothing.
-use mathlib.Core.Path.{◌≡◌}
-use Prim.Native.Nat.{◌-◌, ◌≤◌}
 use lib.ListN.{length}
 use Rattle.lemmas.proofs.Building.{Built}
 use Rattle.dna.specs.Letters.{reverse_complement}
 use Rattle.dna.proofs.labels.reverse_complement_label.Given as goal
 
 abbrev pub invariant-loop-i : goal.invariant-loop-i
-invariant-loop-i l =
-    (l.n ≡ length l.label) × (l.n ≤ length l.initial.out) × (l.i ≤ l.n) × (length l.out ≡ length l.initial.out) × Built (reverse_complement l.label) l.initial.out l.out l.i
-
-abbrev pub decreases-loop-i : goal.decreases-loop-i
-decreases-loop-i l = l.n - l.i
+invariant-loop-i l = Built (reverse_complement l.label) l.initial.out l.out (length l.yielded)
