@@ -4,7 +4,7 @@ use mathlib.Core.Path.{◌≡◌, sym, ap, ◌∙◌}
 use mathlib.Core.Logic.{◌⊎◌, inl, inr}
 use mathlib.Core.Bool.{true, false}
 use mathlib.Core.List.{List}
-use Prim.Native.Nat.{ℕ, ◌+◌, ◌-◌, ◌≤◌, ◌<◌, ◌%◌}
+use Prim.Native.Nat.{ℕ, ◌+◌, ◌-◌, ◌≤◌, ◌<◌, ◌%◌, min, max}
 use native.Mathlib.Nat.{not-suc-le-zero, mod-lt, mod-eq_of_lt, mod-mod, mod-add-mod}
 use native.Mathlib.Decide.{dec_lt}
 use native.Mathlib.Omega.{arith}
@@ -95,10 +95,10 @@ chase_turn c = record { apart = λ e. c.apart (sym e); front = c.back; back = c.
 pub chase_on : (s : List ℕ) (i j k : ℕ) → Chase s i j k → at s (i + k) ≡ at s (j + k) → Chase s i j (k + 1)
 chase_on s i j k c e = record { apart = c.apart; front = c.front; back = c.back; same = below_more (λ t. at s (i + t) ≡ at s (j + t)) k c.same e }
 
--- From i on the text is the larger: i moves past what was compared, or past j, and not onto it.
-pub chase_skip : (s : List ℕ) (i j k i₁ : ℕ) → Chase s i j k → 1 < length s → k < length s → at s (j + k) < at s (i + k)
-    → (i₁ ≡ j → ⊥) → (i₁ ≤ i + k + 1) ⊎ (i₁ ≤ j + 1) → Chase s i₁ j 0
-chase_skip s i j k i₁ c long hk h apart z = record { apart = apart; front = front z; back = λ v. absurd (gone v); same = λ t v. absurd (not-suc-le-zero v) }
+-- From i on the text is the larger: i moves past what was compared, and past j.
+pub chase_skip : (s : List ℕ) (i j k : ℕ) → Chase s i j k → 1 < length s → k < length s → at s (j + k) < at s (i + k)
+    → Chase s (max (i + k + 1) (j + 1)) j 0
+chase_skip s i j k c long hk h = record { apart = λ e. omega arith; front = front; back = λ v. absurd (gone v); same = λ t v. absurd (not-suc-le-zero v) }
   where
     lost : (t : ℕ) → t ≤ k → i + t ≡ least_start s → ⊥
     lost = beaten s (least_start s) (least_to_lem s (length s - 1)) (omega arith) i j k hk c.same h
@@ -113,13 +113,13 @@ chase_skip s i j k i₁ c long hk h apart z = record { apart = apart; front = fr
         go (yes u) = c.front u
         go (no u) = absurd (lost (least_start s - i) (omega arith) (omega arith))
 
-    front : (i₁ ≤ i + k + 1) ⊎ (i₁ ≤ j + 1) → least_start s < i₁ → least_start s ≡ j
-    front (inl u) v = past (omega arith)
-    front (inr u) v = go (dec_lt (least_start s) j)
+    front : least_start s < max (i + k + 1) (j + 1) → least_start s ≡ j
+    front v = go (dec_lt (least_start s) j) (dec_lt (least_start s) (i + k + 1))
       where
-        go : Dec (least_start s < j) → least_start s ≡ j
-        go (yes x) = absurd (gone x)
-        go (no x) = omega arith
+        go : Dec (least_start s < j) → Dec (least_start s < i + k + 1) → least_start s ≡ j
+        go (yes u) d = absurd (gone u)
+        go (no u) (yes w) = past (omega arith)
+        go (no u) (no w) = omega arith
 
 -- A start past the end leaves the other.
 pub chase_out : (s : List ℕ) (i j k : ℕ) → Chase s i j k → 1 < length s → length s ≤ i → (j < i) × (j ≡ least_start s)
@@ -139,11 +139,22 @@ chase_all s i j k c long ij hj hk = go (dec_lt (least_start s) j)
         absurd (alike s (least_start s) (least_to_lem s (length s - 1)) (omega arith) i (j - i) (omega arith) (omega arith)
         (λ t h. rw e (c.same t (omega arith))) (omega arith))
 
--- At the loop's end the smaller start is the answer.
-pub chase_ends : (s : List ℕ) (i j k : ℕ) → Chase s i j k → 1 < length s → i < j → (length s ≤ j) ⊎ (length s ≤ k) → i ≡ least_start s
+-- Where a start is past the end, or all bytes are alike, the smaller start is least.
+chase_ends : (s : List ℕ) (i j k : ℕ) → Chase s i j k → 1 < length s → i < j → (length s ≤ j) ⊎ (length s ≤ k) → i ≡ least_start s
 chase_ends s i j k c long ij (inl h) = (chase_out s j i k (chase_turn c) long h).1
 chase_ends s i j k c long ij (inr h) = go (dec_lt j (length s))
   where
     go : Dec (j < length s) → i ≡ least_start s
     go (yes u) = chase_all s i j k c long ij u h
     go (no u) = (chase_out s j i k (chase_turn c) long (omega arith)).1
+
+-- At the loop's end the smaller start is the answer.
+pub chase_min : (s : List ℕ) (i j k : ℕ) → Chase s i j k → 1 < length s → (length s ≤ max i j) ⊎ (length s ≤ k) → min i j ≡ least_start s
+chase_min s i j k c long h = go (dec_lt i j)
+  where
+    past : (m : ℕ) → max i j ≡ m → (length s ≤ m) ⊎ (length s ≤ k)
+    past m e = rw e at h
+
+    go : Dec (i < j) → min i j ≡ least_start s
+    go (yes u) = omega (arith, chase_ends s i j k c long u (past j (omega arith)))
+    go (no u) = omega (arith, chase_ends s j i k (chase_turn c) long (omega (arith, c.apart)) (past i (omega arith)))

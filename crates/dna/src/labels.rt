@@ -65,18 +65,12 @@ pub fn least_rotation_start(s: &[u8]) -> usize
         if a == b {
             k += 1;
         } else if a > b {
-            i += k + 1;
-            if i <= j {
-                i = j + 1;
-            }
+            i = (i + k + 1).max(j + 1);
             k = 0;
         } else {
-            j += k + 1;
-            if j <= i {
-                j = i + 1;
-            }
+            j = (j + k + 1).max(i + 1);
             k = 0;
         }
     }
-    if i < j { i } else { j }
+    i.min(j)
 }

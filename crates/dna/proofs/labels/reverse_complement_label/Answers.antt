@@ -35,14 +35,14 @@ returns-then-out-n c =
 pub bounds-out-i : goal.bounds-out-i
 bounds-out-i c =
     let t = YieldsList-turn (YieldsList-from_enumerate (YieldsList-from_rev_slice c.args.label.now cc) cc) c.loop-i.yielded _
-        c.loop-i.yielded_by _ _ (c.in-Some.i, c.in-Some.field-0-1) c.in-Some.is c.next.ensures.steps in
+    c.loop-i.yielded_by _ _ (c.in-Some.i, c.in-Some.field-0-1) c.in-Some.is c.next.ensures.steps in
     omega (arith, item c.args.label.now _ _ _ t)
 
 pub loop-i-preserved : goal.loop-i-preserved
 loop-i-preserved c =
     let s = c.args.label.now in
     let t = YieldsList-turn (YieldsList-from_enumerate (YieldsList-from_rev_slice s cc) cc) c.loop-i.yielded _
-        c.loop-i.yielded_by _ _ (c.in-Some.i, c.in-Some.field-0-1) c.in-Some.is c.next.ensures.steps in
+    c.loop-i.yielded_by _ _ (c.in-Some.i, c.in-Some.field-0-1) c.in-Some.is c.next.ensures.steps in
     let u = item s _ _ _ t in
     rw (length_push, u.1)
     (built_more (reverse_complement s) c.args.out.now c.loop-i.out (length c.loop-i.yielded) c.loop-i.invariant c.complement_ascii.result
@@ -53,6 +53,6 @@ pub returns : goal.returns
 returns c =
     let s = c.args.label.now in
     let t = YieldsList-end (YieldsList-from_enumerate (YieldsList-from_rev_slice s cc) cc) c.loop-i.yielded _
-        c.loop-i.yielded_by _ _ c.in-None.is c.next.ensures.steps in
+    c.loop-i.yielded_by _ _ c.in-None.is c.next.ensures.steps in
     writes_all (reverse_complement s) c.args.out.now c.loop-i.out (length s) (sym (length_reverse_complement s)) (rw length_reverse_complement (omega arith))
     (subst (λ n. Built (reverse_complement s) c.args.out.now c.loop-i.out n) (t.1 ∙ length-enumerate_from 0 (reverse s) ∙ length-reverse s) c.loop-i.invariant)
