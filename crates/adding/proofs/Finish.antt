@@ -9,6 +9,7 @@ use lib.ListN.{length, drop}
 use lib.Dec.{ltb, leb}
 use lib.Seq.{drop-drop}
 use borrow.Author.Tests.{lt-ltb, le-ltb, le-leb}
+use Rattle.std.specs.Prelude.{Result, Ok, Err}
 use Rattle.dna.specs.Answer.{gives}
 use Rattle.dna.specs.Text.{over}
 use Rattle.state.specs.Counted.{Kind}
@@ -19,12 +20,10 @@ use Rattle.graph.proofs.Keys.{keys_length}
 use Rattle.graph.proofs.Adding.{added_sound}
 use Rattle.graph.proofs.Accepted.{fit_length, fit_sound}
 use Rattle.table.specs.Join.{join_call, Joining, Joins}
-use Rattle.table.specs.declared.JoinAnswer.{JoinAnswer}
-use Rattle.table.specs.declared.JoinAnswer.TheVariants as join
+use Rattle.table.specs.declared.JoinError.{JoinError}
 use Rattle.adding.specs.Batch.{sorted_new, Grouped, Raised}
-use Rattle.adding.specs.Says.{add_answer, joined_answer, Addable, Adds}
-use Rattle.adding.specs.declared.AddAnswer.{AddAnswer}
-use Rattle.adding.specs.declared.AddAnswer.TheVariants as add
+use Rattle.adding.specs.Says.{add_answer, Addable, Adds}
+use Rattle.adding.specs.declared.AddError.TheVariants as add
 use Rattle.adding.proofs.Batch.{batch, batch_number, batch_few}
 
 module _ {κ : Kind} {rule : Rule} {K : ℕ} {label : List ℕ} {n : ℕ} {keys counts : List ℕ} (a : Addable K label n keys counts)
@@ -39,7 +38,7 @@ module _ {κ : Kind} {rule : Rule} {K : ℕ} {label : List ℕ} {n : ℕ} {keys 
   number : length after.keys ≡ n + u
   number = batch_number a g
 
-  pub adds_full : capacity keys counts < n + u → Adds add.Full keys counts whole
+  pub adds_full : capacity keys counts < n + u → Adds (Err add.Full) keys counts whole
   unfolding add_bases
   adds_full h =
       let l : ltb (capacity keys counts) (length after.keys) ≡ true =
@@ -49,7 +48,7 @@ module _ {κ : Kind} {rule : Rule} {K : ℕ} {label : List ℕ} {n : ℕ} {keys 
   module _ (room : n + u ≤ capacity keys counts) (room_places : windows K label ≤ length new-places)
       (room_counts : windows K label ≤ length new-counts) {m : ℕ} (all : m ≡ windows K label)
       {counts' : List ℕ} (r : Raised κ rule K label (keys_of n keys) m counts counts')
-      {j : JoinAnswer} {keys'' counts'' : List ℕ}
+      {j : Result ℕ JoinError} {keys'' counts'' : List ℕ}
       (e : Joins j keys'' counts'' (join_call n keys counts' u new-places new-keys new-counts)) where
     -- Nothing past the stored vertices' counters was changed.
     same_rest : drop (length after.counts) counts' ≡ drop (length after.counts) counts
@@ -60,7 +59,7 @@ module _ {κ : Kind} {rule : Rule} {K : ℕ} {label : List ℕ} {n : ℕ} {keys 
         rw (s, ← drop-drop u (length (keys_of n keys)) counts', ← drop-drop u (length (keys_of n keys)) counts, r.rest)
 
     done : join_call n keys counts' u new-places new-keys new-counts
-        ≡ record { answer = join.Joined (n + u); keys = over (words_of after.keys) keys; counts = over after.counts counts }
+        ≡ record { answer = Ok (n + u); keys = over (words_of after.keys) keys; counts = over after.counts counts }
     done =
         let few = batch_few a g in
         let places_there : u ≤ length new-places = omega arith in
@@ -71,16 +70,22 @@ module _ {κ : Kind} {rule : Rule} {K : ℕ} {label : List ℕ} {n : ℕ} {keys 
         let f : ltb (capacity keys counts') (n + u) ≡ false = le-ltb (capacity keys counts') (n + u) (rw r.long room) in
         rw (p, le-leb u (length new-places) places_there, b.rises, f, ← b.keys_in, ← b.counts_in, same_rest)
 
-    pub adds_joined : {z : AddAnswer} → z ≡ joined_answer (length label - K) j → Adds z keys'' counts'' whole
+    -- They are put in.
+    put : j ≡ Ok (n + u)
+    put = e.answer ∙ ap (λ (x : Joining). x.answer) done
+
+    pub not_refused : {x : JoinError} → j ≡ Err x → ⊥
+    not_refused q = let z : Ok (n + u) ≡ Err _ = sym put ∙ q in cc
+
+    pub adds_joined : {stored : ℕ} → j ≡ Ok stored → Adds (Ok (record { edges = length label - K; stored = stored })) keys'' counts'' whole
     unfolding add_bases
-    adds_joined q =
+    adds_joined {stored} q =
         let c : ltb (capacity keys counts) (length after.keys) ≡ false =
         le-ltb (capacity keys counts) (length after.keys) (rw number room) in
-        let put : j ≡ join.Joined (n + u) = e.answer ∙ ap (λ (x : Joining). x.answer) done in
+        let same : stored ≡ n + u = let z : Ok stored ≡ Ok (n + u) = sym q ∙ put in cc in
         rw c
         (record {
-          answer = ap add_answer (q ∙ ap (joined_answer (length label - K)) put)
-              ∙ ap (λ (i : ℕ). gives (record { edges = length label - K; stored = i })) (sym number);
+          answer = ap (λ (i : ℕ). gives (record { edges = length label - K; stored = i })) (same ∙ sym number);
           keys_after = e.keys_after ∙ ap (λ (x : Joining). x.keys) done;
           counts_after = e.counts_after ∙ ap (λ (x : Joining). x.counts) done;
         })
