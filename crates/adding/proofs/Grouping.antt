@@ -6,6 +6,7 @@ use Prim.Native.Nat.{ℕ, ◌+◌, ◌-◌, ◌*◌, ◌/◌, ◌≤◌, ◌<◌
 use native.Mathlib.Omega.{arith}
 use lib.Dec.{ltb, eqb}
 use lib.ListN.{length, get_or, set, length-set}
+use lib.Seq.{get_or-set_same, set-set}
 use borrow.Author.Tests.{ltb-true, lt-ltb, eqb-true, eqb-false}
 use Rattle.state.specs.Counted.{Kind}
 use Rattle.lemmas.proofs.Tests.{both}
@@ -89,16 +90,21 @@ module _ {κ : Kind} {q : ℕ} {notes places offsets keys₀ places₀ counts₀
         }
 
     pub grouping_new : ltb 0 u && eqb (key_at keys (u - 1)) x ≡ false
-        → {keys' : List ℕ} → keys' ≡ put_key keys u x → {w : ℕ} → w ≡ counted_by κ (get_or notes (get_or offsets t 0) 0) 0
+        → {keys' : List ℕ} → keys' ≡ put_key keys u x
+        → {w : ℕ} → w ≡ counted_by κ (get_or notes (get_or offsets t 0) 0) (get_or (set counts u 0) (u + 1 - 1) 0)
         → Grouping κ q notes places offsets keys₀ places₀ counts₀ (t + 1) (u + 1) keys'
-        (set new-places u (get_or places (get_or offsets t 0) 0)) (set counts u w)
+        (set new-places u (get_or places (get_or offsets t 0) 0)) (set (set counts u 0) (u + 1 - 1) w)
     grouping_new s {keys'} ek {w} ew =
         let p : ℕ = get_or places (get_or offsets t 0) 0 in
         let lk : u < length keys / 2 = rw v.long_keys (omega (arith, v.few, y.keys_there)) in
         let back : t + 1 - 1 ≡ t = omega arith in
         let end : u + 1 - 1 ≡ u = omega arith in
+        let lc : u < length counts = omega (arith, v.few, v.long_counts, y.room_counts) in
+        let none : get_or (set counts u 0) (u + 1 - 1) 0 ≡ 0 = rw end (get_or-set_same counts u 0 0 lc) in
+        let both : set (set counts u 0) (u + 1 - 1) w ≡ set counts u w = rw (end, set-set) in
         let differs : 0 < u → eqb (key_at keys (u - 1)) x ≡ false = λ a. rw (lt-ltb 0 u a) at s in
-        record {
+        rw both
+        (record {
           upto = omega arith;
           few = omega (arith, v.few);
           long_keys = ap length ek ∙ put_long keys u x ∙ v.long_keys;
@@ -121,8 +127,8 @@ module _ {κ : Kind} {q : ℕ} {notes places offsets keys₀ places₀ counts₀
                 l.ascends (t - 1) t (omega arith) h,
               ))
               (l.below t h) (l.canonical t h) lk (omega (arith, v.few, v.long_places, y.room_places))
-              (omega (arith, v.few, v.long_counts, y.room_counts)) (l.placed t h) ew);
-        }
+              lc (l.placed t h) (rw none at ew));
+        })
 
   pub grouping_all : {t u : ℕ} {keys new-places counts : List ℕ}
       → Grouping κ q notes places offsets keys₀ places₀ counts₀ t u keys new-places counts → q ≤ t

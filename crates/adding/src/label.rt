@@ -1,5 +1,5 @@
 // One label added.
-ghost use Rattle.std.specs.Prelude.{◌≡◌, [], ◌≤◌, length};
+ghost use Rattle.std.specs.Prelude.{◌≡◌, [], ◌≤◌, ◌/◌, length};
 ghost use Rattle.dna.specs.Letters.{first_bad};
 ghost use Rattle.state.specs.Says.{kind_of};
 ghost use Rattle.graph.specs.Table.{keys_of};

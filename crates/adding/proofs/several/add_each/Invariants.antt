@@ -1,5 +1,4 @@
 -- The invariant: the labels that are left give what all give, and behind the first the table is fit. Assumes nothing.
-use Prim.Native.Nat.{◌-◌}
 use Rattle.state.specs.Says.{kind_of}
 use Rattle.adding.specs.Says.{rule_of}
 use Rattle.adding.proofs.OneByOne.{SomeAdded}
@@ -7,7 +6,4 @@ use Rattle.adding.proofs.several.add_each.Given as goal
 
 abbrev pub invariant-loop-i : goal.invariant-loop-i
 invariant-loop-i l =
-    SomeAdded (kind_of l.kind) (rule_of l.mode) l.k l.n l.initial.keys l.initial.counts l.text l.starts l.lengths l.count l.i l.edges l.stored l.keys l.counts
-
-abbrev pub decreases-loop-i : goal.decreases-loop-i
-decreases-loop-i l = l.count - l.i
+    SomeAdded (kind_of l.kind) (rule_of l.mode) l.k l.n l.initial.keys l.initial.counts l.text l.starts l.lengths l.count l.i l.last l.keys l.counts

@@ -1,17 +1,18 @@
 -- Inside the label the base behind the window is read. Assumes nothing.
-use mathlib.Core.Path.{◌∙◌}
+use mathlib.Core.Path.{ap, ◌∙◌}
 use Prim.Native.Nat.{◌+◌}
+use Rattle.dna.specs.Letters.{valid_bits}
 use Rattle.adding.proofs.Neighbours.{next_counts, last_none, bits_code}
 use Rattle.adding.proofs.windows.after_of.Goals as goal
 
-pub returns-then-e-label : goal.returns-then-e-label
-returns-then-e-label c =
+pub returns-in-Some : goal.returns-in-Some
+returns-in-Some c =
     let e = c.args.o + c.args.k in
+    let here = c.in-Some.ensures.lookup.3 in
     c.valid_ascii_base_bits.ensures
-    ∙ bits_code c.args.label.now e c.if-e-label.true c.requires.0.bases
-    ∙ next_counts c.args.k c.args.label.now c.args.o c.if-e-label.true
+    ∙ ap valid_bits (here.1 0)
+    ∙ bits_code c.args.label.now e here.0 c.requires.0.bases
+    ∙ next_counts c.args.k c.args.label.now c.args.o here.0
 
-pub returns : goal.returns
-returns c =
-    let a = c.args in
-    last_none a.k a.label.now a.o c.if-e-label.false
+pub returns-in-None : goal.returns-in-None
+returns-in-None c = last_none c.args.k c.args.label.now c.args.o c.in-None.ensures.lookup.3
