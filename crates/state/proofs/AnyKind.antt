@@ -1,5 +1,5 @@
--- Words of any kind: 0 has no bit outside the counters, and raising one of the eight sets none; below the tops of two kinds a cutoff
--- retains the same of the same sightings. Assumes nothing.
+-- Words of any kind: 0 has no bit outside the counters, and raising one of the eight sets none; below the tops of two
+-- kinds a cutoff retains the same of the same sightings. Assumes nothing.
 use mathlib.Core.Path.{◌≡◌, refl, ap, ◌∙◌}
 use mathlib.Core.Bool.{true}
 use Prim.Native.Nat.{ℕ, zero, suc, ◌+◌, ◌*◌, ◌%◌, ◌^◌, ◌≤◌, ◌<◌, min}
@@ -38,7 +38,8 @@ raise_word_fits κ w j h f =
 
 -- ---- below the tops
 
--- A cutoff up to both tops is reached by both of two counters that stand for the same number of sightings, or by neither.
+-- A cutoff up to both tops is reached by both of two counters that stand for the same number of sightings, or by
+-- neither.
 pub reached_alike : (a b c x : ℕ) → c ≤ a → c ≤ b → leb c (min a x) ≡ leb c (min b x)
 reached_alike a b c x ha hb =
     same_bool (leb c (min a x)) (leb c (min b x))

@@ -1,5 +1,5 @@
--- Counters of any width from any bit on: raising one gives the smaller of its top and one more, leaves the others alone and sets no
--- bit past the last; the order of raising does not matter. Assumes nothing.
+-- Counters of any width from any bit on: raising one gives the smaller of its top and one more, leaves the others
+-- alone and sets no bit past the last; the order of raising does not matter. Assumes nothing.
 use mathlib.Core.Path.{◌≡◌, refl, sym, ap, ◌∙◌}
 use mathlib.Core.Bool.{Bool, true, false, cond}
 use Prim.Native.Nat.{ℕ, suc, ◌+◌, ◌-◌, ◌*◌, ◌/◌, ◌%◌, ◌^◌, ◌≤◌, ◌<◌, min}
@@ -82,7 +82,8 @@ pub raise_more : (κ : Kind) (w j : ℕ) → count κ w j < top κ → raise κ 
 unfolding raise
 raise_more κ w j h = simp (ne_eqb (count κ w j) (top κ) (λ e. omega arith))
 
--- What holds of a word in which counter j is full, and of one with a unit more where it is not, holds of the raised one.
+-- What holds of a word in which counter j is full, and of one with a unit more where it is not, holds of the raised
+-- one.
 pub raised_by :
     (P : ℕ → Type 0) (κ : Kind) (w j : ℕ) →
     (top κ ≡ count κ w j → P w) → (count κ w j < top κ → P (w + unit κ j)) → P (raise κ w j)

@@ -1,22 +1,23 @@
--- What `edge_at` tells of a side: E for no retained edge, the base for one, N for more; so that every other question about a side
--- can be asked of it. At cutoff 0 it is N, and a cutoff above the top isolates. Assumes nothing.
-use mathlib.Core.Path.{◌≡◌, refl, sym, ◌∙◌}
+-- What `edge_at` tells of a side: E for no retained edge, the base for one, N for more; so that every other question
+-- about a side can be asked of it. At cutoff 0 it is N, and a cutoff above the top isolates. Assumes nothing.
+use mathlib.Core.Path.{◌≡◌, refl, sym, ◌∙◌, subst}
 use mathlib.Core.Logic.{◌↔◌}
 use mathlib.Core.Bool.{true, ◌&&◌}
 use mathlib.Core.List.Memᴰ
 use mathlib.Core.List.{List, [], ◌∷◌, Memᴰ}
-use Prim.Native.Nat.{ℕ, ◌+◌, ◌*◌, ◌≤◌, ◌<◌}
+use Prim.Native.Nat.{ℕ, zero, suc, ◌≤◌, ◌<◌}
 use native.Mathlib.Nat.{add-zero}
 use native.Mathlib.Omega.{arith}
 use lib.Dec.{ltb, eqb, leb-zero}
 use lib.ListN.{length}
 use borrow.Author.Tests.{lt-leb, lt-ltb, ne_eqb}
-use Rattle.state.specs.Counted.{Kind, top, slot_of, count, retained, single, edge_at, edge_count, is_branching, is_empty, is_isolated}
-use Rattle.state.specs.Parts.{kept}
+use Rattle.state.specs.Counted.{Kind, top, slot_of, count, retained, single, edge_at, edge_count}
+use Rattle.state.specs.Counted.{is_branching, is_empty, is_isolated}
+use Rattle.state.specs.Parts.{Tallied}
 use Rattle.state.specs.declared.Side.{Side}
 use Rattle.state.specs.declared.Side.TheVariants.{Front, Back}
 use Rattle.state.proofs.Counters.{count_le}
-use Rattle.state.proofs.Retained.{total, retained_exactly, edges_kept, total_kept}
+use Rattle.state.proofs.Retained.{total, retained_exactly, Below}
 
 -- What holds of no base, of one below 4 and of more holds of a list of such bases.
 single_by :
@@ -77,12 +78,12 @@ module _ (κ : Kind) (cutoff w : ℕ) (s : Side) where
       let lists = retained_exactly κ cutoff w s x in
       (λ k. only.0 (lists.1 k), λ e. lists.0 (only.1 e))
 
-  -- Where the side has one edge, it is found by adding up the tests of C, G and T with their codes.
-  pub edge_sum :
-      edge_count κ cutoff w s ≡ 1 →
-      edge_at κ cutoff w s ≡ kept κ cutoff w s 1 + 2 * kept κ cutoff w s 2 + 3 * kept κ cutoff w s 3
+  -- All four added up: where the side has one edge, the sum is its base.
+  pub below_all : {n edges codes : ℕ} → Below κ cutoff w s n edges codes → n ≡ 4 → Tallied κ cutoff w s edges codes
   unfolding edge_count edge_at
-  edge_sum h = single_total (retained κ cutoff w s 4 0) h ∙ total_kept κ cutoff w s
+  below_all {edges = edges} {codes = codes} b e =
+      let t = subst (λ m. Below κ cutoff w s m edges codes) e b in
+      record { edges = t.number; codes = λ one. t.sum ∙ sym (single_total _ (sym t.number ∙ one)) }
 
   pub empty_edge : is_empty κ cutoff w s ≡ eqb (edge_at κ cutoff w s) 5
   empty_edge =
@@ -95,14 +96,18 @@ module _ (κ : Kind) (cutoff w : ℕ) (s : Side) where
 
   -- Where every counter is below the cutoff, the side has no edge.
   edge_below : ((j : ℕ) → count κ w j < cutoff) → edge_at κ cutoff w s ≡ 5
-  unfolding kept
-  edge_below h =
-      let off : (b : ℕ) → kept κ cutoff w s b ≡ 0 = λ b. simp (lt-leb cutoff (count κ w (slot_of s b)) (h (slot_of s b))) in
-      edge_none.1 (omega (arith, edges_kept κ cutoff w s, off 0, off 1, off 2, off 3))
+  unfolding edge_at single retained
+  edge_below h = rw (none_retained 4 0)
+    where
+      none_retained : (m b : ℕ) → retained κ cutoff w s m b ≡ []
+      none_retained zero b = refl
+      none_retained (suc m) b =
+          rw (lt-leb cutoff (count κ w (slot_of s b)) (h (slot_of s b))) (none_retained m (suc b))
 
 -- A vertex is isolated where both of its sides answer E.
 pub isolated_edges :
-    (κ : Kind) (cutoff w : ℕ) → is_isolated κ cutoff w ≡ (eqb (edge_at κ cutoff w Front) 5 && eqb (edge_at κ cutoff w Back) 5)
+    (κ : Kind) (cutoff w : ℕ)
+    → is_isolated κ cutoff w ≡ (eqb (edge_at κ cutoff w Front) 5 && eqb (edge_at κ cutoff w Back) 5)
 isolated_edges κ cutoff w = rw (empty_edge κ cutoff w Front, empty_edge κ cutoff w Back)
 
 -- Cutoff 0 gives N everywhere.

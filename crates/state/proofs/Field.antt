@@ -1,5 +1,5 @@
--- A field of b bits from bit s on, in a word n of N bits: what shifts and masks read there, and the word in which they put one
--- more there. Assumes nothing.
+-- A field of b bits from bit s on, in a word n of N bits: what shifts and masks read there, and the word in which
+-- they put one more there. Assumes nothing.
 use mathlib.Core.Path.{◌≡◌, sym, ap, ap₂, ◌∙◌, subst}
 use Prim.Native.Nat.{ℕ, ◌+◌, ◌-◌, ◌*◌, ◌/◌, ◌%◌, ◌^◌, ◌<◌, ◌≤◌}
 use native.Mathlib.Nat.{add-mul, add-zero, one-mul, mod-lt, mod-eq_of_lt}
@@ -51,7 +51,8 @@ module _ (N b s n : ℕ) (room : b + s ≤ N) (fits : n < 2 ^ N) where
   -- (n & !mask) | ((field + 1) << s), where the field is not full
   pub one_more_lem :
       n / 2 ^ s % 2 ^ b < 2 ^ b - 1 →
-      bit_or (bit_and n ((2 ^ N - 1) - ((2 ^ b - 1) * 2 ^ s) % 2 ^ N)) (((n / 2 ^ s % 2 ^ b + 1) * 2 ^ s) % 2 ^ N) ≡ n + 2 ^ s
+      bit_or (bit_and n ((2 ^ N - 1) - ((2 ^ b - 1) * 2 ^ s) % 2 ^ N)) (((n / 2 ^ s % 2 ^ b + 1) * 2 ^ s) % 2 ^ N)
+      ≡ n + 2 ^ s
   one_more_lem h =
       let q = n / 2 ^ s in
       let next : q / 2 ^ b * 2 ^ b + (q % 2 ^ b + 1) ≡ q + 1 = omega (arith, split q b) in

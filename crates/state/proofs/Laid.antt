@@ -25,7 +25,8 @@ module _ (l : Layout) (h : Holds l) (j : ℕ) (b : j < 8) where
     here = bit_and w ((l.top * 2 ^ off) % 2 ^ 32) / 2 ^ off
 
     pub more_laid : here < l.top
-        → bit_or (bit_and w ((2 ^ 32 - 1) - (l.top * 2 ^ off) % 2 ^ 32)) (((here + 1) * 2 ^ off) % 2 ^ 32) ≡ raise (kind_in l) w j
+        → bit_or (bit_and w ((2 ^ 32 - 1) - (l.top * 2 ^ off) % 2 ^ 32)) (((here + 1) * 2 ^ off) % 2 ^ 32)
+        ≡ raise (kind_in l) w j
     more_laid lt = rw (at, h.full) (raise_bits (kind_in l) 32 w j within fits (rw (at, h.full) at lt))
 
     pub full_laid : l.top ≤ here → w ≡ raise (kind_in l) w j

@@ -2,7 +2,6 @@ pub mod Field
 pub mod Counters
 pub mod Words
 pub mod Laid
-pub mod Asked
 pub mod Slots
 pub mod Retained
 pub mod Edges

@@ -1,6 +1,6 @@
--- The retained bases of a side are exactly those whose count is at least the cutoff; their number and their sum are those of the four
--- tests. Assumes nothing.
-use mathlib.Core.Path.{◌≡◌, refl}
+-- The retained bases of a side are exactly those whose count is at least the cutoff; a measure of them grows base by
+-- base. Assumes nothing.
+use mathlib.Core.Path.{◌≡◌, refl, sym}
 use mathlib.Core.Logic.{◌↔◌, ⊎_elim}
 use mathlib.Core.Bool.{Bool, true, false, cond}
 use mathlib.Core.List.Memᴰ
@@ -10,9 +10,9 @@ use native.Mathlib.Omega.{arith}
 use lib.Dec.{leb, eqb}
 use lib.ListN.{length}
 use borrow.Author.Tests.{leb-true, le-leb, eqb-true, eqb-false}
+use Rattle.std.proofs.Common.{add-one}
 use Rattle.lemmas.proofs.Tests.{choose}
-use Rattle.state.specs.Counted.{Kind, slot_of, count, retained, edge_count}
-use Rattle.state.specs.Parts.{kept}
+use Rattle.state.specs.Counted.{Kind, slot_of, count, retained}
 use Rattle.state.specs.declared.Side.{Side}
 
 -- The sum of a list.
@@ -21,21 +21,28 @@ total [] = 0
 total (b ∷ l) = b + total l
 
 module _ (κ : Kind) (cutoff w : ℕ) (s : Side) where
-  -- A measure f of lists to which each member x adds g x is, of the retained bases, the sum of what those that are kept add.
-  module _ (f : List ℕ → ℕ) (g : ℕ → ℕ) (none : f [] ≡ 0) (one : (x : ℕ) (l : List ℕ) → f (x ∷ l) ≡ g x + f l) where
-    next : (m b : ℕ) → f (retained κ cutoff w s (suc m) b) ≡ g b * kept κ cutoff w s b + f (retained κ cutoff w s m (suc b))
-    unfolding retained kept
-    next m b = go (leb cutoff (count κ w (slot_of s b))) (retained κ cutoff w s m (suc b))
-      where
-        go : (t : Bool) (l : List ℕ) → f (cond t (b ∷ l) l) ≡ g b * cond t 1 0 + f l
-        go true l = omega (arith, one b l)
-        go false l = omega arith
+  abbrev pub keeps : ℕ → Bool
+  keeps b = leb cutoff (count κ w (slot_of s b))
 
-    measured :
-        f (retained κ cutoff w s 4 0)
-        ≡ g 0 * kept κ cutoff w s 0 + g 1 * kept κ cutoff w s 1 + g 2 * kept κ cutoff w s 2 + g 3 * kept κ cutoff w s 3
+  -- A measure f of lists to which each member x adds g x grows, with one base more, by what that base adds where it is
+  -- retained.
+  module _ (f : List ℕ → ℕ) (g : ℕ → ℕ) (one : (x : ℕ) (l : List ℕ) → f (x ∷ l) ≡ g x + f l) where
+    grown : (m b n : ℕ) → n ≡ b + m
+        → f (retained κ cutoff w s (suc m) b) ≡ f (retained κ cutoff w s m b) + cond (keeps n) (g n) 0
     unfolding retained
-    measured = omega (arith, next 3 0, next 2 1, next 1 2, next 0 3)
+    grown zero b n e = let q : n ≡ b = omega arith in rw q (go (keeps b))
+      where
+        go : (t : Bool) → f (cond t (b ∷ []) []) ≡ f [] + cond t (g b) 0
+        go true = omega (arith, one b [])
+        go false = omega arith
+    grown (suc m) b n e =
+        go (keeps b) (retained κ cutoff w s (suc m) (suc b)) (retained κ cutoff w s m (suc b))
+        (grown m (suc b) n (omega arith))
+      where
+        go : (t : Bool) (k l : List ℕ) → f k ≡ f l + cond (keeps n) (g n) 0
+            → f (cond t (b ∷ k) k) ≡ f (cond t (b ∷ l) l) + cond (keeps n) (g n) 0
+        go true k l h = omega (arith, one b k, one b l)
+        go false k l h = h
 
   -- A listed base is one of those asked for, and has the count.
   listed :
@@ -79,16 +86,37 @@ module _ (κ : Kind) (cutoff w : ℕ) (s : Side) where
   retained_exactly x =
       (λ i. let r = listed 4 0 x i in (omega arith, r.2), λ h. lists 4 0 x (omega arith) (omega arith) h.1)
 
-  -- Their number: each stands there once.
-  pub edges_kept :
-      edge_count κ cutoff w s
-      ≡ kept κ cutoff w s 0 + kept κ cutoff w s 1 + kept κ cutoff w s 2 + kept κ cutoff w s 3
-  unfolding edge_count
-  edges_kept = omega (arith, measured length (λ _. 1) refl (λ x l. omega arith))
+  -- Of the bases below n so many are retained, with this sum of their codes.
+  pub record Below (n edges codes : ℕ) : Type 0 where
+    pub number : edges ≡ length (retained κ cutoff w s n 0)
+    pub sum : codes ≡ total (retained κ cutoff w s n 0)
+    pub few : edges ≤ n
+    pub small : codes ≤ 3 * n
 
-  -- Their sum.
-  pub total_kept :
-      total (retained κ cutoff w s 4 0)
-      ≡ kept κ cutoff w s 1 + 2 * kept κ cutoff w s 2 + 3 * kept κ cutoff w s 3
-  unfolding total
-  total_kept = omega (arith, measured total (λ x. x) refl (λ x l. refl))
+  pub below_none : Below 0 0 0
+  unfolding retained total
+  below_none = record { number = refl; sum = refl; few = omega arith; small = omega arith }
+
+  module _ {n edges codes : ℕ} (b : Below n edges codes) where
+    edges_grown : length (retained κ cutoff w s (suc n) 0) ≡ edges + cond (keeps n) 1 0
+    edges_grown = omega (arith, grown length (λ _. 1) (λ x l. omega arith) n 0 n (omega arith), b.number)
+
+    codes_grown : total (retained κ cutoff w s (suc n) 0) ≡ codes + cond (keeps n) n 0
+    unfolding total
+    codes_grown = omega (arith, grown total (λ x. x) (λ x l. refl) n 0 n (omega arith), b.sum)
+
+    pub below_kept : n < 4 → keeps n ≡ true → Below (n + 1) (edges + 1) (codes + n)
+    below_kept h k = rw (add-one n) record {
+      number = sym (rw k at edges_grown);
+      sum = sym (rw k at codes_grown);
+      few = omega (arith, b.few);
+      small = omega (arith, b.small);
+    }
+
+    pub below_left : keeps n ≡ false → Below (n + 1) edges codes
+    below_left k = rw (add-one n) record {
+      number = omega (arith, rw k at edges_grown);
+      sum = omega (arith, rw k at codes_grown);
+      few = omega (arith, b.few);
+      small = omega (arith, b.small);
+    }

@@ -1,5 +1,5 @@
--- Sides: each is opposite to its opposite, each side and base has a counter of its own, and where neither neighbour is N both are
--- counted. Assumes nothing.
+-- Sides: each is opposite to its opposite, each side and base has a counter of its own, and where neither neighbour
+-- is N both are counted. Assumes nothing.
 use mathlib.Core.Path.{◌≡◌, refl}
 use Prim.Native.Nat.{ℕ, ◌<◌}
 use native.Mathlib.Omega.{arith}

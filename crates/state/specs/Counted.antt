@@ -1,6 +1,7 @@
 -- Eight counters in one word, Front A, C, G, T and then Back A, C, G, T, of whatever kind, and what is asked of them.
 -- Assumes nothing.
-use Rattle.std.specs.Prelude.{ℕ, zero, suc, ◌+◌, ◌-◌, ◌*◌, ◌/◌, ◌%◌, ◌^◌, Bool, true, false, cond, ◌&&◌, ◌||◌, List, [], ◌∷◌, ltb, leb, eqb, length}
+use Rattle.std.specs.Prelude.{ℕ, zero, suc, ◌+◌, ◌-◌, ◌*◌, ◌/◌, ◌%◌, ◌^◌}
+use Rattle.std.specs.Prelude.{Bool, true, false, cond, ◌&&◌, ◌||◌, List, [], ◌∷◌, ltb, leb, eqb, length}
 use Rattle.std.specs.Bool.{beq}
 use Rattle.dna.specs.Answer.{Answer, gives, refuses}
 use Rattle.state.specs.declared.Side.{Side}

@@ -1,7 +1,7 @@
 -- What the parts of a call say. Assumes nothing.
-use Rattle.std.specs.Prelude.{ℕ, ◌+◌, ◌*◌, ◌≤◌, ◌≡◌, cond, [], leb, eqb}
+use Rattle.std.specs.Prelude.{ℕ, ◌+◌, ◌*◌, ◌≤◌, ◌≡◌, cond, [], eqb}
 use Rattle.dna.specs.Answer.{Answer, gives, refuses}
-use Rattle.state.specs.Counted.{Kind, top, slot_of, count, edge_at, edge_count, counted}
+use Rattle.state.specs.Counted.{Kind, top, edge_at, edge_count, counted}
 use Rattle.state.specs.declared.Side.{Side}
 use Rattle.state.specs.declared.Layout.{Layout}
 
@@ -14,10 +14,6 @@ pub record Holds (l : Layout) : Type 0 where
   pub some : 1 ≤ l.width
   pub room : l.first + l.width * 8 ≤ 32
   pub full : l.top ≡ top (kind_in l)
-
--- 1 where a side retains a base's edge, else 0.
-unfoldable pub kept : Kind → ℕ → ℕ → Side → ℕ → ℕ
-kept κ cutoff w s b = cond (leb cutoff (count κ w (slot_of s b))) 1 0
 
 -- One of two neighbours counted on its side; 10 for N.
 abbrev pub neighbour_call : Kind → ℕ → Side → ℕ → Answer ℕ

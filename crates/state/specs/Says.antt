@@ -1,4 +1,5 @@
--- What the enums of this crate say: a kind by its layout, answers in the numbers of documents 01 and 02. Assumes nothing.
+-- What the enums of this crate say: a kind by its layout, answers in the numbers of documents 01 and 02. Assumes
+-- nothing.
 use Rattle.std.specs.Prelude.{ℕ, Bool, [], Result, Ok, Err}
 use Rattle.dna.specs.Answer.{Answer, gives, refuses}
 use Rattle.dna.specs.Calls.{code_in}

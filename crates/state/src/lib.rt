@@ -53,7 +53,8 @@ struct Layout {
     top: u32,
 }
 
-// A side's four tests added up: how many bases are retained, and the sum of their codes, which is the base where there is one.
+// A side's four tests added up: how many bases are retained, and the sum of their codes, which is the base where
+// there is one.
 #[derive(Clone, Copy)]
 struct Tally {
     edges: u32,

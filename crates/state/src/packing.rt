@@ -1,8 +1,8 @@
 // Eight counters in a word, of any width and from any bit on: one code for every kind.
-ghost use Rattle.std.specs.Prelude.{◌≡◌, ◌+◌, ◌*◌, ◌<◌, ◌≤◌};
+ghost use Rattle.std.specs.Prelude.{◌≡◌, ◌+◌, ◌*◌, ◌<◌, leb};
 ghost use Rattle.dna.specs.Calls.{code_in};
 ghost use Rattle.state.specs.Counted.{slot_of, count, raise, edge_at, add_edge_call, update_call};
-ghost use Rattle.state.specs.Parts.{kind_in, Holds, kept, neighbour_call, Tallied};
+ghost use Rattle.state.specs.Parts.{kind_in, Holds, neighbour_call, Tallied};
 ghost use Rattle.state.specs.Says.{word_answer};
 
 use super::{Layout, NoBase, Side, Tally};
@@ -54,7 +54,7 @@ pub(crate) fn add_edge(l: Layout, word: u32, side: Side, edge: Base) -> Result<u
     requires { Holds l }
     ensures { word_answer result ≡ add_edge_call (kind_in l) word side (code_in edge) }
 {
-    let bits = edge.bits() as u32;
+    let bits = u32::from(edge.bits());
     if bits > 3 {
         return Err(NoBase);
     }
@@ -81,29 +81,26 @@ pub(crate) fn update(l: Layout, word: u32, front: Base, back: Base) -> Result<u3
     with_neighbour(l, now, Side::Back, back)
 }
 
-// 1 where a side retains a base's edge, else 0.
-fn retains(l: Layout, word: u32, side: Side, bits: u32, cutoff: u32) -> u32
+// Whether a side retains a base's edge.
+fn retains(l: Layout, word: u32, side: Side, bits: u32, cutoff: u32) -> bool
     requires { Holds l × (bits < 4) }
-    ensures { (result ≡ kept (kind_in l) cutoff word side bits) × (result ≤ 1) }
+    ensures { result ≡ leb cutoff (count (kind_in l) word (slot_of side bits)) }
 {
-    if read(l, word, slot(side, bits)) >= cutoff {
-        return 1;
-    }
-    0
+    cutoff <= read(l, word, slot(side, bits))
 }
 
 pub(crate) fn tally(l: Layout, word: u32, side: Side, cutoff: u32) -> Tally
     requires { Holds l }
     ensures { Tallied (kind_in l) cutoff word side result.edges result.codes }
 {
-    let a = retains(l, word, side, 0, cutoff);
-    let c = retains(l, word, side, 1, cutoff);
-    let g = retains(l, word, side, 2, cutoff);
-    let t = retains(l, word, side, 3, cutoff);
-    Tally {
-        edges: a + c + g + t,
-        codes: c + 2 * g + 3 * t,
+    let mut tally = Tally { edges: 0, codes: 0 };
+    for bits in 0..4 {
+        if retains(l, word, side, bits, cutoff) {
+            tally.edges += 1;
+            tally.codes += bits;
+        }
     }
+    tally
 }
 
 // E for no retained edge, the base for one, N for more.
@@ -112,16 +109,9 @@ pub(crate) fn edge_at(l: Layout, word: u32, side: Side, cutoff: u32) -> Base
     ensures { code_in result ≡ edge_at (kind_in l) cutoff word side }
 {
     let tally = tally(l, word, side, cutoff);
-    let edges = tally.edges;
-    let codes = tally.codes;
-    match edges {
+    match tally.edges {
         0 => Base::E,
-        1 => match codes {
-            0 => Base::A,
-            1 => Base::C,
-            2 => Base::G,
-            _ => Base::T,
-        },
+        1 => Base::from_bits(tally.codes as u8),
         _ => Base::N,
     }
 }

@@ -1,34 +1,27 @@
--- `edge_at` meets its contract: E and N by the number of edges, and where it is 1 the sum of the codes is the base.
--- Assumes nothing.
+-- E and N by the number of edges, and where it is 1 the sum of the codes is the base. Assumes nothing.
 use mathlib.Core.Path.{sym, ◌∙◌}
 use Prim.Native.Nat.{◌<◌}
 use native.Mathlib.Omega.{arith}
 use Rattle.state.specs.Counted.{edge_count}
 use Rattle.state.specs.Parts.{kind_in}
-use Rattle.state.proofs.Edges.{edge_none, edge_one, edge_many}
+use Rattle.state.proofs.Edges.{edge_le, edge_none, edge_many}
 use Rattle.state.proofs.packing.edge_at.Goals as goal
+
+pub overflow_cast-tally : goal.overflow_cast-tally
+overflow_cast-tally c =
+    let a = c.args in
+    record { fits = omega (arith, c.tally-tally.ensures.codes c.in-1.is, edge_le (kind_in a.l) a.cutoff a.word a.side) }
 
 pub returns-in-0 : goal.returns-in-0
 returns-in-0 c =
     let a = c.args in
-    let none = sym c.tally-tally.ensures.edges ∙ c.in-0.is in
-    sym ((edge_none (kind_in a.l) a.cutoff a.word a.side).1 none)
+    sym ((edge_none (kind_in a.l) a.cutoff a.word a.side).1 (sym c.tally-tally.ensures.edges ∙ c.in-0.is))
 
-pub returns-in-0-codes : goal.returns-in-0-codes
-returns-in-0-codes c = sym c.in-0-codes.is ∙ c.tally-tally.ensures.codes c.in-1.is
-
-pub returns-in-1-codes : goal.returns-in-1-codes
-returns-in-1-codes c = sym c.in-1-codes.is ∙ c.tally-tally.ensures.codes c.in-1.is
-
-pub returns-in-2 : goal.returns-in-2
-returns-in-2 c = sym c.in-2.is ∙ c.tally-tally.ensures.codes c.in-1.is
-
-pub returns-in_default-codes : goal.returns-in_default-codes
-returns-in_default-codes c =
-    let t = c.tally-tally.ensures in
+pub returns-in-1 : goal.returns-in-1
+returns-in-1 c =
     let a = c.args in
-    let base = (edge_one (kind_in a.l) a.cutoff a.word a.side).1 (sym t.edges ∙ c.in-1.is) in
-    omega (arith, t.codes c.in-1.is, c.in_default-codes)
+    omega
+    (arith, c.from_bits.ensures, c.tally-tally.ensures.codes c.in-1.is, edge_le (kind_in a.l) a.cutoff a.word a.side)
 
 pub returns-in_default : goal.returns-in_default
 returns-in_default c =

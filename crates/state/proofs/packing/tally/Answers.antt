@@ -1,20 +1,28 @@
--- `tally` meets its contract: the sums of the four tests are those of the laws `edges_kept` and `edge_sum`.
+-- Each base is added where it is retained (`below_kept`), and left out where it is not (`below_left`).
 -- Assumes nothing.
-use mathlib.Core.Path.{◌≡◌}
+use mathlib.Core.Path.{sym, ◌∙◌}
 use native.Mathlib.Omega.{arith}
-use Rattle.state.specs.Counted.{edge_count}
 use Rattle.state.specs.Parts.{kind_in}
-use Rattle.state.proofs.Retained.{edges_kept}
-use Rattle.state.proofs.Edges.{edge_sum}
+use Rattle.state.proofs.Edges.{below_all}
+use Rattle.state.proofs.Retained.{below_none, below_kept, below_left}
 use Rattle.state.proofs.packing.tally.Goals as goal
+use Rattle.state.proofs.packing.tally.Goals.{then-retains, else-retains}
+
+pub loop-bits-init : goal.loop-bits-init
+loop-bits-init c = below_none (kind_in c.args.l) c.args.cutoff c.args.word c.args.side
+
+pub loop-bits-preserved : goal.loop-bits-preserved
+loop-bits-preserved c =
+    let a = c.args in
+    let b = c.loop-bits.invariant in
+    elim c.if-retains.branch [
+      | then-retains w ↦
+          rw w.tally-is (below_kept (kind_in a.l) a.cutoff a.word a.side b c.loop-bits-test.true
+          (sym c.retains.ensures ∙ w.if-retains.true))
+      | else-retains w ↦
+          rw w.tally-is (below_left (kind_in a.l) a.cutoff a.word a.side b (sym c.retains.ensures ∙ w.if-retains.false))
+    ]
 
 pub returns : goal.returns
 returns c =
-    let a = c.args in
-    let all = edges_kept (kind_in a.l) a.cutoff a.word a.side in
-    record {
-      edges = omega arith;
-      codes = λ one.
-          let sole : edge_count (kind_in a.l) a.cutoff a.word a.side ≡ 1 = omega arith in
-          omega (arith, edge_sum (kind_in a.l) a.cutoff a.word a.side sole);
-    }
+    below_all (kind_in c.args.l) c.args.cutoff c.args.word c.args.side c.loop-bits.invariant (omega arith)
