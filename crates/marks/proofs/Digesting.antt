@@ -1,4 +1,4 @@
--- Each cell of a slice computed anew, one after the other. Assumes nothing.
+-- Each cell of a slice computed from that of another, one after the other. Assumes nothing.
 use mathlib.Core.Path.{◌≡◌, sym, ap, ◌∙◌}
 use mathlib.Core.List.{List, map}
 use Prim.Native.Nat.{ℕ, suc, ◌+◌, ◌≤◌, ◌<◌, min}
@@ -9,23 +9,6 @@ use Rattle.lemmas.proofs.Building.{Built, built_more, built_all, built_whole}
 use Rattle.lemmas.proofs.Lists.{get_d_map}
 use Rattle.dna.specs.Text.{over}
 use Rattle.dna.proofs.Overwriting.{over_all}
-
-module _ (text slice₀ slice : List ℕ) (i : ℕ) (b : Built text slice₀ slice i) where
-  -- The cell to be written next is as it was.
-  built_rest : i < length slice₀ → get_or slice i 0 ≡ get_or slice₀ i 0
-  built_rest h =
-      rw (b.cells, drop-cons slice₀ i 0 h)
-      (get_or_at (take i text) (get_or slice₀ i 0) (drop (suc i) slice₀) 0 i (length-take-le i text b.within))
-
-module _ (f : ℕ → ℕ) (slice₀ slice : List ℕ) (i : ℕ) (b : Built (map f slice₀) slice₀ slice i) where
-  -- Each cell computed from itself.
-  pub mapped_more : i < length slice₀ → Built (map f slice₀) slice₀ (set slice i (f (get_or slice i 0))) (i + 1)
-  mapped_more h =
-      built_more (map f slice₀) slice₀ slice i b (f (get_or slice i 0)) (omega (arith, length-map slice₀ f)) h
-      (ap f (built_rest (map f slice₀) slice₀ slice i b h) ∙ sym (get_d_map f slice₀ i h))
-
-  pub mapped_all : length slice₀ ≤ i → slice ≡ map f slice₀
-  mapped_all h = built_whole (map f slice₀) slice₀ slice i b (length-map slice₀ f) h
 
 -- Cells computed from those of another slice, as many as both have.
 module _ (f : ℕ → ℕ) (ws slice₀ : List ℕ) where

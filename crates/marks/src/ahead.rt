@@ -23,12 +23,7 @@ pub fn edge_in(mark: u8, side: Side) -> u8
 pub fn base_of(code: u8) -> Base
     ensures { code_in result ≡ code % 4 }
 {
-    match code % 4 {
-        0 => Base::A,
-        1 => Base::C,
-        2 => Base::G,
-        _ => Base::T,
-    }
+    Base::from_bits(code % 4)
 }
 
 // The base that an edge appends: on Front it is complemented.
@@ -42,38 +37,20 @@ pub fn leaving_base(side: Side, edge: u8) -> Base
     }
 }
 
-fn is_same(s: Side, t: Side) -> bool
-    ensures { result ≡ same_side s t }
-{
-    match s {
-        Side::Front => match t {
-            Side::Front => true,
-            Side::Back => false,
-        },
-        Side::Back => match t {
-            Side::Front => false,
-            Side::Back => true,
-        },
-    }
-}
-
 // Whether a visited vertex ahead closes the cycle: it is the anchor, come back to by the side opposite the start.
 fn closes(anchor: usize, start: Side, vertex: usize, side: Side) -> bool
     ensures { result ≡ eqb vertex anchor && not (same_side side start) }
 {
-    if vertex == anchor {
-        return !is_same(side, start);
-    }
-    false
+    vertex == anchor && side != start
 }
 
 // Vertex w would be entered by a side, come to by a base: the walk stops if that side retains several edges, or if the vertex is
 // visited; else it goes on by the opposite side. A vertex past the marks has no edge and is not visited. K and the keys play no part.
+#[tactic(auto, using(crate::proofs::Entering::enter_past, crate::proofs::Entering::enter_at))]
 pub fn enter(marks: &[u8], anchor: usize, start: Side, w: usize, side: Side, base: u8) -> Step
     ensures { (K : ℕ) (ks : List ℕ) → result ≡ entered K ks (ends marks.now) anchor start (visits marks.now) w side base }
 {
-    if w < marks.len() {
-        let mark = marks[w];
+    if let Some(&mark) = marks.get(w) {
         if edge_in(mark, side) == 4 {
             return Step::Stop(StopReason::BranchingAhead);
         }
@@ -89,18 +66,12 @@ pub fn enter(marks: &[u8], anchor: usize, start: Side, w: usize, side: Side, bas
 }
 
 // Whether vertex a is no anchor: visited or isolated, or past the marks.
+#[tactic(auto, using(crate::proofs::Skipping::skipped_past, crate::proofs::Skipping::skipped_at))]
 pub fn is_skipped(marks: &[u8], a: usize) -> bool
     ensures { result ≡ (visited (visits marks.now) a || isolated (ends marks.now) a) }
 {
-    if marks.len() <= a {
+    let Some(&mark) = marks.get(a) else {
         return true;
-    }
-    let mark = marks[a];
-    if mark / 64 == 1 {
-        return true;
-    }
-    if edge_in(mark, Side::Front) == 5 {
-        return edge_in(mark, Side::Back) == 5;
-    }
-    false
+    };
+    mark / 64 == 1 || edge_in(mark, Side::Front) == 5 && edge_in(mark, Side::Back) == 5
 }

@@ -1,5 +1,5 @@
 // Marks made of the counts, and unmade.
-ghost use Rattle.std.specs.Prelude.{◌≡◌, map, min, length, take, replicate};
+ghost use Rattle.std.specs.Prelude.{◌≡◌, map, length, take, replicate};
 ghost use Rattle.dna.specs.Text.{over};
 ghost use Rattle.state.specs.Says.{kind_of};
 ghost use Rattle.marks.specs.Marks.{mark_of, visits};
@@ -15,21 +15,13 @@ fn mark_of(kind: EdgeKind, word: u32, cutoff: u32) -> u8
     front.bits() + 8 * back.bits()
 }
 
-fn least(a: usize, b: usize) -> usize
-    ensures { result ≡ min a b }
-{
-    if a < b { a } else { b }
-}
-
-// The edges of as many vertices as there are marks and counts; a mark that has no counts stays.
+// The edges of as many vertices as there are marks and counts; a mark that has no counts stays. By place: after
+// a zip of iter_mut nothing is known of the marks.
 pub fn digest(kind: EdgeKind, counts: &[u32], cutoff: u32, marks: &mut [u8])
     ensures { marks.new ≡ over (map (mark_of (kind_of kind) cutoff) (take (length marks.old) counts.now)) marks.old }
 {
-    let n = least(marks.len(), counts.len());
-    let mut i = 0;
-    while i < n {
+    for i in 0..marks.len().min(counts.len()) {
         marks[i] = mark_of(kind, counts[i], cutoff);
-        i += 1;
     }
 }
 
@@ -37,10 +29,8 @@ pub fn digest(kind: EdgeKind, counts: &[u32], cutoff: u32, marks: &mut [u8])
 pub fn settle(marks: &mut [u8])
     ensures { marks.new ≡ visits marks.old }
 {
-    let mut i = 0;
-    while i < marks.len() {
-        marks[i] = marks[i] / 64;
-        i += 1;
+    for mark in marks.iter_mut() {
+        *mark /= 64;
     }
 }
 
@@ -48,9 +38,5 @@ pub fn settle(marks: &mut [u8])
 pub fn clear(marks: &mut [u8])
     ensures { marks.new ≡ replicate (length marks.old) 0 }
 {
-    let mut i = 0;
-    while i < marks.len() {
-        marks[i] = 0;
-        i += 1;
-    }
+    marks.fill(0);
 }

@@ -1,7 +1,5 @@
 -- Each turn computes one more mark. Assumes nothing.
-use mathlib.Core.Path.{◌≡◌}
 use mathlib.Core.List.{map}
-use Prim.Native.Nat.{◌-◌}
 use lib.ListN.{length, take}
 use Rattle.lemmas.proofs.Building.{Built}
 use Rattle.state.specs.Says.{kind_of}
@@ -10,7 +8,4 @@ use Rattle.marks.proofs.making.digest.Given as goal
 
 abbrev pub invariant-loop-i : goal.invariant-loop-i
 invariant-loop-i l =
-    (length l.marks ≡ length l.initial.marks) × Built (map (mark_of (kind_of l.kind) l.cutoff) (take (length l.initial.marks) l.counts)) l.initial.marks l.marks l.i
-
-abbrev pub decreases-loop-i : goal.decreases-loop-i
-decreases-loop-i l = l.n - l.i
+    Built (map (mark_of (kind_of l.kind) l.cutoff) (take (length l.initial.marks) l.counts)) l.initial.marks l.marks l.i

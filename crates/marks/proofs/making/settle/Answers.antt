@@ -1,24 +1,21 @@
-use mathlib.Core.Path.{refl}
-use Prim.Native.Nat.{◌/◌}
-use native.Mathlib.Omega.{arith}
-use lib.ListN.{length-set}
-use Rattle.lemmas.proofs.Building.{built_none}
+use Rattle.std.proofs.Common.{◌/◌, ◌<◌, length, get_or, ◌∙◌, arith, take_all}
+use Rattle.std.proofs.lemmas.List.{get_or_default, drop_all}
+use Rattle.std.proofs.lemmas.List.Edits.{map_over_more}
+use mathlib.Core.List.{append-nil}
 use Rattle.marks.specs.Marks.{visits}
-use Rattle.marks.proofs.Digesting.{mapped_more, mapped_all}
-use borrow.Author.Rules.{rules}
 use Rattle.marks.proofs.making.settle.Goals as goal
 
-pub loop-i-init : goal.loop-i-init
-loop-i-init c = (search rules, refl, built_none _ _)
-
-pub loop-i-preserved : goal.loop-i-preserved
-loop-i-preserved c =
-    let a = c.args in
-    let l = c.loop-i in
-    (search rules, simp length-set l.invariant.1, mapped_more (λ m. m / 64) a.marks.now l.marks l.i l.invariant.2 (omega arith))
+pub loop-mark-preserved : goal.loop-mark-preserved
+loop-mark-preserved c =
+    let l = c.loop-mark in
+    let within : l.mark-index < length l.marks = omega arith in
+    map_over_more (λ m. m / 64) c.args.marks.now l.marks l.mark-index (get_or l.marks l.mark-index 0) (omega arith) l.invariant
+    (get_or_default l.marks l.mark-index 0 _ within)
 
 pub returns : goal.returns
 unfolding visits
 returns c =
-    let l = c.loop-i in
-    mapped_all (λ m. m / 64) c.args.marks.now l.marks l.i l.invariant.2 (omega arith)
+    let l = c.loop-mark in
+    let e = take_all l.mark-index c.args.marks.now (omega arith) in
+    let n = drop_all l.mark-index c.args.marks.now (omega arith) in
+    l.invariant ∙ rw (e, n) (append-nil _)
