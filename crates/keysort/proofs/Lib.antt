@@ -1,4 +1,3 @@
-pub mod Keyed
 pub mod Words
 pub mod Columns
 pub mod Sorted
