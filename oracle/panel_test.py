@@ -5,7 +5,7 @@ The text, its index and the questions are those of crates/panel_test/src/main.rt
 import os, re
 
 NONE, FREE = 2**32 - 1, 0xEEEEEEEE
-ROOM = {"eight": 8, "three": 3, "one": 1}
+LARGEST = {"u32::MAX": 2**32 - 1, "usize::MAX": 2**64 - 1}
 
 
 def answer(k, cutoff, probe, least, most, count, out):
@@ -32,12 +32,12 @@ def numbers(name):
 
 crate = os.path.join(os.path.dirname(os.path.abspath(__file__)), "..", "crates", "panel_test")
 source = open(os.path.join(crate, "src", "main.rt")).read()
-TEXT = re.search(r'fn text_of.*?b"(.*?)"', source, re.S)[1].replace("\\\n", "").encode()
+TEXT = re.search(r'const LABELS.*?b"(.*?)"', source, re.S)[1].replace("\\\n", "").encode()
 STARTS, LENGTHS = numbers("STARTS"), numbers("LENGTHS")
 lines = []
-for name, words in re.findall(r"\n    (eight|three|one)\((?:&?rt, )?([\d, ]+)\)", source):
-    question = [int(word) for word in words.split(",")]
-    out = [FREE] * ROOM[name]
+for words, cells in re.findall(r"\n    ask\(&rt, (.*), &mut \[FREE; (\d)\]\)", source):
+    question = [LARGEST[word] if word in LARGEST else int(word) for word in words.split(", ")]
+    out = [FREE] * int(cells)
     said = answer(*question, out)
     lines.append(" ".join(map(str, ["panel", *question, len(out)])) + f": {said};" + "".join(f" {x}" for x in out))
 open(os.path.join(crate, "stdout"), "w").write("\n".join(lines) + "\n")

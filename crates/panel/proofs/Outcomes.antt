@@ -1,5 +1,5 @@
 -- What a call that was not refused has written. Assumes nothing.
-use Rattle.std.proofs.Common.{◌≡◌, ℕ, ◌+◌, ◌^◌, ◌<◌, ◌≤◌, true, false, ltb, List, length, get_or, drop, sym, refl, ap, ◌∙◌, arith, length-take}
+use Rattle.std.proofs.Common.{◌≡◌, ℕ, ◌+◌, ◌^◌, ◌<◌, ◌≤◌, true, false, ltb, List, length, get_or, drop, sym, refl, ap, ◌∙◌, arith, length-take, Result, Ok}
 use lib.ListN.{get_or-append}
 use Rattle.lemmas.proofs.Tests.{choose}
 use Rattle.dna.specs.Text.{over}
@@ -9,8 +9,7 @@ use Rattle.label_index.specs.Entries.{label_at, within}
 use Rattle.panel.specs.Probes.{between, none, begins, first_probe, First}
 use Rattle.panel.specs.Panel.{in_profile, first_starts, panel}
 use Rattle.panel.specs.Says.{panel_answer, Panels}
-use Rattle.panel.specs.declared.PanelAnswer.{PanelAnswer}
-use Rattle.panel.specs.declared.PanelAnswer.TheVariants.{Answered}
+use Rattle.panel.specs.declared.PanelError.{PanelError}
 use Rattle.panel.proofs.Listed.{starts_number, starts_at}
 use Rattle.panel.proofs.Says.{profile_some}
 use Rattle.panel.proofs.Firsts.{first_says, some_says, none_says, says_none}
@@ -40,9 +39,9 @@ module _ (K cutoff L least most : ℕ) (labels starts lengths : List ℕ) (count
       (λ b h. ungiven m _ _ h))
       (λ p h. ungiven m _ _ h)
 
-  module _ {r : PanelAnswer} {out : List ℕ}
+  module _ {r : Result ℕ PanelError} {out : List ℕ}
       (p : Panels r out (panel K cutoff L least most labels starts lengths count slice))
-      {m : ℕ} (e : r ≡ Answered m) where
+      {m : ℕ} (e : r ≡ Ok m) where
     whole : Written m (panel K cutoff L least most labels starts lengths count slice)
     whole = written m (ap panel_answer (sym e) ∙ p.answer)
 

@@ -1,6 +1,6 @@
--- The enum's definition tells its cases apart, so the call's contract allows one answer and one content of the slice;
+-- The definition of the answers tells them apart, so the call's contract allows one answer and one content of the slice;
 -- what each answer has to show. Assumes nothing.
-use Rattle.std.proofs.Common.{◌≡◌, ℕ, ◌%◌, ◌<◌, ◌≤◌, true, false, cond, ◌&&◌, eqb, leb, List, length, sym, refl, ap, ◌∙◌, arith, le-ltb, lt-ltb, eqb-true, leb-true}
+use Rattle.std.proofs.Common.{◌≡◌, ℕ, ◌%◌, ◌<◌, ◌≤◌, true, false, cond, ◌&&◌, eqb, leb, List, length, sym, refl, ap, ◌∙◌, arith, le-ltb, lt-ltb, eqb-true, leb-true, Result, Ok, Err}
 use Rattle.lemmas.proofs.Tests.{both}
 use Rattle.dna.specs.Text.{over}
 use Rattle.dna.specs.Answer.{Answer, gives, refuses, Filled}
@@ -8,27 +8,27 @@ use Rattle.label_index.specs.Entries.{within}
 use Rattle.panel.specs.Probes.{between}
 use Rattle.panel.specs.Panel.{in_profile, first_starts, panel}
 use Rattle.panel.specs.Says.{panel_answer, Panels}
-use Rattle.panel.specs.declared.PanelAnswer.{PanelAnswer}
-use Rattle.panel.specs.declared.PanelAnswer.TheVariants.{Answered, OutOfProfile, WrongBounds, OutOfLabels, NoRoom}
+use Rattle.panel.specs.declared.PanelError.{PanelError}
+use Rattle.panel.specs.declared.PanelError.TheVariants.{OutOfProfile, WrongBounds, OutOfLabels, NoRoom}
 use Rattle.panel.proofs.Listed.{starts_number}
 
 -- The case of an answer; a panel has no refusal but 26, 27, 12 and 28.
-abbrev case_of : Answer ℕ → PanelAnswer
-case_of (gives n) = Answered n
+abbrev case_of : Answer ℕ → Result ℕ PanelError
+case_of (gives n) = Ok n
 case_of (refuses r values) =
-    cond (eqb r 26) OutOfProfile (cond (eqb r 27) WrongBounds (cond (eqb r 12) OutOfLabels NoRoom))
+    Err (cond (eqb r 26) OutOfProfile (cond (eqb r 27) WrongBounds (cond (eqb r 12) OutOfLabels NoRoom)))
 
-case_back : (a : PanelAnswer) → case_of (panel_answer a) ≡ a
-case_back (Answered n) = refl
-case_back OutOfProfile = refl
-case_back WrongBounds = refl
-case_back OutOfLabels = refl
-case_back NoRoom = refl
+case_back : (a : Result ℕ PanelError) → case_of (panel_answer a) ≡ a
+case_back (Ok n) = refl
+case_back (Err OutOfProfile) = refl
+case_back (Err WrongBounds) = refl
+case_back (Err OutOfLabels) = refl
+case_back (Err NoRoom) = refl
 
-panel_inj : (a b : PanelAnswer) → panel_answer a ≡ panel_answer b → a ≡ b
+panel_inj : (a b : Result ℕ PanelError) → panel_answer a ≡ panel_answer b → a ≡ b
 panel_inj a b e = sym (case_back a) ∙ ap case_of e ∙ case_back b
 
-pub panels_one : (r s : PanelAnswer) {out out' : List ℕ} {f : Filled} → Panels r out f → Panels s out' f
+pub panels_one : (r s : Result ℕ PanelError) {out out' : List ℕ} {f : Filled} → Panels r out f → Panels s out' f
     → (r ≡ s) × (out ≡ out')
 panels_one r s p q = (panel_inj r s (p.answer ∙ sym q.answer), p.slice ∙ sym q.slice)
 
@@ -61,19 +61,19 @@ module _ (K cutoff L least most : ℕ) (labels starts lengths : List ℕ) (count
   result = panel K cutoff L least most labels starts lengths count slice
 
   -- K, the cutoff or the length is outside the profile.
-  pub panels_profile : in_profile K cutoff L ≡ false → Panels OutOfProfile slice result
+  pub panels_profile : in_profile K cutoff L ≡ false → Panels (Err OutOfProfile) slice result
   unfolding panel
   panels_profile p = rw p (record { answer = refl; slice = refl })
 
   module _ (p : in_profile K cutoff L ≡ true) where
     -- The bounds are not in order.
-    pub panels_bounds : between least most L ≡ false → Panels WrongBounds slice result
+    pub panels_bounds : between least most L ≡ false → Panels (Err WrongBounds) slice result
     unfolding panel
     panels_bounds b = rw (p, b) (record { answer = refl; slice = refl })
 
     module _ (b : between least most L ≡ true) where
       -- An entry is not there or lies past the labels.
-      pub panels_outside : within labels count starts lengths ≡ false → Panels OutOfLabels slice result
+      pub panels_outside : within labels count starts lengths ≡ false → Panels (Err OutOfLabels) slice result
       unfolding panel
       panels_outside w = rw (p, b, w) (record { answer = refl; slice = refl })
 
@@ -85,14 +85,14 @@ module _ (K cutoff L least most : ℕ) (labels starts lengths : List ℕ) (count
         number = starts_number L least most labels starts lengths count w
 
         -- The answers do not fit.
-        pub panels_full : length slice < count → Panels NoRoom slice result
+        pub panels_full : length slice < count → Panels (Err NoRoom) slice result
         unfolding panel
         panels_full r =
             let l : length slice < length all = rw number r in
             rw (p, b, w, lt-ltb (length slice) (length all) l) (record { answer = refl; slice = refl })
 
         -- They are written.
-        pub panels_all : count ≤ length slice → (out : List ℕ) → out ≡ over all slice → Panels (Answered count) out result
+        pub panels_all : count ≤ length slice → (out : List ℕ) → out ≡ over all slice → Panels (Ok count) out result
         unfolding panel
         panels_all r out o =
             let l : length all ≤ length slice = rw number r in

@@ -3,7 +3,7 @@
 // k-mer in common is said in the crate `demands`.
 #![tactic(auto)]
 
-ghost use Rattle.std.specs.Prelude.{◌≡◌, ◌^◌, ◌<◌, ◌≤◌, true, length};
+ghost use Rattle.std.specs.Prelude.{◌≡◌, ◌^◌, ◌<◌, ◌≤◌, true, length, unwrap_or};
 ghost use Rattle.dna.specs.Text.{over};
 ghost use Rattle.label_index.specs.Entries.{within};
 ghost use Rattle.panel.specs.Probes.{gc_of, gc_in, between, first_probe};
@@ -29,84 +29,52 @@ pub enum PanelError {
 fn gc(byte: u8) -> usize
     ensures { (result ≡ gc_of byte) × (result ≤ 1) }
 {
-    if byte == b'G' {
-        return 1;
-    }
-    if byte == b'C' {
-        return 1;
-    }
-    0
+    usize::from(matches!(byte, b'G' | b'C'))
 }
 
 // How many bytes are G or C.
 fn gc_in(text: &[u8]) -> usize
     ensures { result ≡ gc_in text.now }
 {
-    let mut held = 0;
-    let mut i = 0;
-    while i < text.len() {
-        held += gc(text[i]);
-        i += 1;
-    }
-    held
+    text.iter().map(|byte| gc(*byte)).sum()
 }
 
-// A number lies between two, or is one of them.
-fn lies_between(low: usize, x: usize, high: usize) -> bool
-    ensures { result ≡ between low x high }
-{
-    if x < low {
-        return false;
-    }
-    x <= high
-}
-
-// The same of two in order, by one comparison: what is below the first wraps round to above the second.
+// A number lies between two in order, or is one of them, by one comparison: what is below the first wraps round to above
+// the second.
 fn in_bounds(least: usize, held: usize, most: usize) -> bool
     requires { least ≤ most }
     ensures { result ≡ between least held most }
 {
-    std::num::wrapping_sub_usize(held, least) <= most - least
+    held.wrapping_sub(least) <= most - least
 }
 
 // The first start of a probe in a label: the number of G and C in the part looked at is kept up as the part moves on.
-fn first_probe(label: &[u8], probe: usize, least: usize, most: usize) -> u32
+fn first_probe(label: &[u8], probe: usize, least: usize, most: usize) -> Option<u32>
     requires { (0 < probe) × (least ≤ most) × (length label.now < 2 ^ 32) }
-    ensures { result ≡ first_probe probe least most label.now }
+    ensures { unwrap_or result NONE ≡ first_probe probe least most label.now }
 {
     if label.len() < probe {
-        return NONE;
+        return None;
     }
     let last = label.len() - probe;
     let mut held = gc_in(&label[..probe]);
-    let mut at = 0;
-    while at < last {
+    for at in 0..last {
         if in_bounds(least, held, most) {
-            return at as u32;
+            return Some(at as u32);
         }
         held = held + gc(label[at + probe]) - gc(label[at]);
-        at += 1;
     }
     if in_bounds(least, held, most) {
-        return last as u32;
+        return Some(last as u32);
     }
-    NONE
+    None
 }
 
 // K is odd and from 15 to 31, the cutoff from 2 to 15, a probe has from K to 63 bases.
 fn in_profile(k: usize, cutoff: u32, probe: usize) -> bool
     ensures { result ≡ in_profile k cutoff probe }
 {
-    if k % 2 != 1 {
-        return false;
-    }
-    if !lies_between(15, k, 31) {
-        return false;
-    }
-    if !lies_between(2, cutoff as usize, 15) {
-        return false;
-    }
-    lies_between(k, probe, 63)
+    k % 2 == 1 && (15..=31).contains(&k) && (2..=15).contains(&cutoff) && (k..=63).contains(&probe)
 }
 
 // The first starts of probes in the first count labels, from the slice's first cell on.
@@ -125,12 +93,10 @@ fn answer_each(
     ensures { out.new ≡ over (first_starts probe least most
         labels.now starts.now lengths.now count) out.old }
 {
-    let mut i = 0;
-    while i < count {
+    for i in 0..count {
         let start = wide(starts[i]);
         let end = start + wide(lengths[i]);
-        out[i] = first_probe(&labels[start..end], probe, least, most);
-        i += 1;
+        out[i] = first_probe(&labels[start..end], probe, least, most).unwrap_or(NONE);
     }
 }
 
@@ -154,7 +120,7 @@ pub fn panel(
     if !in_profile(k, cutoff, probe) {
         return Err(PanelError::OutOfProfile);
     }
-    if !lies_between(least, most, probe) {
+    if !(least..=probe).contains(&most) {
         return Err(PanelError::WrongBounds);
     }
     if !lie_within(labels, starts, lengths, count) {

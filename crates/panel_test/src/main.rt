@@ -3,7 +3,7 @@
 // rules alone.
 #![tactic(auto)]
 
-use panel::PanelAnswer;
+use panel::PanelError;
 use std::io;
 
 // What stands in a cell that nothing was written to.
@@ -14,19 +14,19 @@ const STARTS: [u32; 8] = [132, 0, 29, 252, 69, 15, 252, 277];
 
 const LENGTHS: [u32; 8] = [120, 15, 40, 0, 63, 14, 30, 6];
 
-fn text_of() -> [u8; 282] {
-    *b"GGCCCCCCACGATCAGCAGTTCGGCTTGTGCgcNAGAGGTCTTCGCCGGGTGGTCTCCCGCATTTATACCTTGCTGGCGCCTCAAGGCGCCACCATA\
+// The text of the labels.
+const LABELS: &[u8] =
+    b"GGCCCCCCACGATCAGCAGTTCGGCTTGTGCgcNAGAGGTCTTCGCCGGGTGGTCTCCCGCATTTATACCTTGCTGGCGCCTCAAGGCGCCACCATA\
 TGAACGATGGATGAAGGCTTCCGATCCGTCGTCGCATATATATATATATATATATATATATATATATATATATATATATATATATATATATATATCCGCCG\
-CCCGGGGCGCCCCGCCGGGGCGGCCCCGCGGCCCCGCCGGCGGGGGGCCGCCGGCCTCTAAACGTGCGGAGAACAAGAGTCGAA"
-}
+CCCGGGGCGCCCCGCCGGGGCGGCCCCGCGGCCCCGCCGGCGGGGGGCCGCCGGCCTCTAAACGTGCGGAGAACAAGAGTCGAA";
 
-fn answer(rt: &impl Print, a: PanelAnswer) -> io::Result<()> {
+fn answer(rt: &impl Print, a: Result<usize, PanelError>) -> io::Result<()> {
     match a {
-        PanelAnswer::Answered(n) => print!(rt; " {n}"),
-        PanelAnswer::OutOfProfile => print!(rt; " R26"),
-        PanelAnswer::WrongBounds => print!(rt; " R27"),
-        PanelAnswer::OutOfLabels => print!(rt; " R12"),
-        PanelAnswer::NoRoom => print!(rt; " R28"),
+        Ok(n) => print!(rt; " {n}"),
+        Err(PanelError::OutOfProfile) => print!(rt; " R26"),
+        Err(PanelError::WrongBounds) => print!(rt; " R27"),
+        Err(PanelError::OutOfLabels) => print!(rt; " R12"),
+        Err(PanelError::NoRoom) => print!(rt; " R28"),
     }
 }
 
@@ -52,91 +52,46 @@ fn ask(
         "panel {k} {cutoff} {probe} {least} {most} {count} {}:",
         out.len()
     )?;
-    let labels = text_of();
-    let starts = STARTS;
-    let lengths = LENGTHS;
-    answer(
-        rt,
-        panel::panel(
-            k, cutoff, probe, least, most, &labels, &starts, &lengths, count, out,
-        ),
-    )?;
+    let a = panel::panel(
+        k, cutoff, probe, least, most, LABELS, &STARTS, &LENGTHS, count, out,
+    );
+    answer(rt, a)?;
     show(rt, out)
 }
 
-// A slice of eight cells, of three, of one.
-fn eight(
-    rt: &impl Print,
-    k: usize,
-    cutoff: u32,
-    probe: usize,
-    least: usize,
-    most: usize,
-    count: usize,
-) -> io::Result<()> {
-    let mut out = [FREE; 8];
-    ask(rt, k, cutoff, probe, least, most, count, &mut out)
-}
-
-fn three(
-    rt: &impl Print,
-    k: usize,
-    cutoff: u32,
-    probe: usize,
-    least: usize,
-    most: usize,
-    count: usize,
-) -> io::Result<()> {
-    let mut out = [FREE; 3];
-    ask(rt, k, cutoff, probe, least, most, count, &mut out)
-}
-
-fn one(
-    rt: &impl Print,
-    k: usize,
-    cutoff: u32,
-    probe: usize,
-    least: usize,
-    most: usize,
-    count: usize,
-) -> io::Result<()> {
-    let mut out = [FREE; 1];
-    ask(rt, k, cutoff, probe, least, most, count, &mut out)
-}
-
 fn main(rt: HostRuntime) -> io::Result<()> {
-    eight(&rt, 15, 2, 15, 0, 15, 7)?;
-    eight(&rt, 15, 2, 15, 7, 8, 7)?;
-    eight(&rt, 15, 15, 15, 15, 15, 7)?;
-    eight(&rt, 15, 2, 15, 0, 0, 7)?;
-    eight(&rt, 31, 2, 31, 0, 3, 7)?;
-    eight(&rt, 31, 2, 63, 30, 31, 7)?;
-    eight(&rt, 31, 2, 63, 32, 63, 7)?;
-    eight(&rt, 31, 2, 63, 40, 41, 7)?;
-    eight(&rt, 21, 3, 40, 12, 18, 7)?;
-    eight(&rt, 17, 2, 30, 30, 30, 7)?;
-    eight(&rt, 15, 2, 14, 0, 14, 7)?;
-    eight(&rt, 15, 2, 64, 0, 64, 7)?;
-    eight(&rt, 13, 2, 15, 0, 15, 7)?;
-    eight(&rt, 33, 2, 40, 0, 15, 7)?;
-    eight(&rt, 16, 2, 20, 0, 15, 7)?;
-    eight(&rt, 15, 1, 15, 0, 15, 7)?;
-    eight(&rt, 15, 16, 15, 0, 15, 7)?;
-    eight(&rt, 15, 0, 15, 9, 8, 7)?;
-    eight(&rt, 15, 2, 15, 9, 8, 7)?;
-    eight(&rt, 15, 2, 15, 3, 16, 7)?;
-    one(&rt, 15, 2, 15, 7, 8, 0)?;
-    three(&rt, 15, 2, 15, 7, 8, 3)?;
-    three(&rt, 15, 2, 15, 7, 8, 4)?;
-    eight(&rt, 15, 2, 15, 7, 8, 8)?;
-    one(&rt, 15, 2, 15, 7, 8, 8)?;
-    eight(&rt, 15, 2, 15, 7, 8, 9)?;
-    one(&rt, 15, 2, 15, 9, 8, 9)?;
-    one(&rt, 16, 2, 15, 9, 8, 9)?;
-    one(&rt, 18446744073709551615, 2, 63, 0, 15, 1)?;
-    one(&rt, 15, 4294967295, 15, 0, 15, 1)?;
-    one(&rt, 15, 2, 18446744073709551615, 0, 15, 1)?;
-    one(&rt, 15, 2, 15, 0, 18446744073709551615, 1)?;
-    one(&rt, 15, 2, 15, 18446744073709551615, 15, 1)?;
-    one(&rt, 15, 2, 15, 0, 15, 18446744073709551615)
+    ask(&rt, 15, 2, 15, 0, 15, 7, &mut [FREE; 8])?;
+    ask(&rt, 15, 2, 15, 7, 8, 7, &mut [FREE; 8])?;
+    ask(&rt, 15, 15, 15, 15, 15, 7, &mut [FREE; 8])?;
+    ask(&rt, 15, 2, 15, 0, 0, 7, &mut [FREE; 8])?;
+    ask(&rt, 31, 2, 31, 0, 3, 7, &mut [FREE; 8])?;
+    ask(&rt, 31, 2, 63, 30, 31, 7, &mut [FREE; 8])?;
+    ask(&rt, 31, 2, 63, 32, 63, 7, &mut [FREE; 8])?;
+    ask(&rt, 31, 2, 63, 40, 41, 7, &mut [FREE; 8])?;
+    ask(&rt, 21, 3, 40, 12, 18, 7, &mut [FREE; 8])?;
+    ask(&rt, 17, 2, 30, 30, 30, 7, &mut [FREE; 8])?;
+    ask(&rt, 15, 2, 14, 0, 14, 7, &mut [FREE; 8])?;
+    ask(&rt, 15, 2, 64, 0, 64, 7, &mut [FREE; 8])?;
+    ask(&rt, 13, 2, 15, 0, 15, 7, &mut [FREE; 8])?;
+    ask(&rt, 33, 2, 40, 0, 15, 7, &mut [FREE; 8])?;
+    ask(&rt, 16, 2, 20, 0, 15, 7, &mut [FREE; 8])?;
+    ask(&rt, 15, 1, 15, 0, 15, 7, &mut [FREE; 8])?;
+    ask(&rt, 15, 16, 15, 0, 15, 7, &mut [FREE; 8])?;
+    ask(&rt, 15, 0, 15, 9, 8, 7, &mut [FREE; 8])?;
+    ask(&rt, 15, 2, 15, 9, 8, 7, &mut [FREE; 8])?;
+    ask(&rt, 15, 2, 15, 3, 16, 7, &mut [FREE; 8])?;
+    ask(&rt, 15, 2, 15, 7, 8, 0, &mut [FREE; 1])?;
+    ask(&rt, 15, 2, 15, 7, 8, 3, &mut [FREE; 3])?;
+    ask(&rt, 15, 2, 15, 7, 8, 4, &mut [FREE; 3])?;
+    ask(&rt, 15, 2, 15, 7, 8, 8, &mut [FREE; 8])?;
+    ask(&rt, 15, 2, 15, 7, 8, 8, &mut [FREE; 1])?;
+    ask(&rt, 15, 2, 15, 7, 8, 9, &mut [FREE; 8])?;
+    ask(&rt, 15, 2, 15, 9, 8, 9, &mut [FREE; 1])?;
+    ask(&rt, 16, 2, 15, 9, 8, 9, &mut [FREE; 1])?;
+    ask(&rt, usize::MAX, 2, 63, 0, 15, 1, &mut [FREE; 1])?;
+    ask(&rt, 15, u32::MAX, 15, 0, 15, 1, &mut [FREE; 1])?;
+    ask(&rt, 15, 2, usize::MAX, 0, 15, 1, &mut [FREE; 1])?;
+    ask(&rt, 15, 2, 15, 0, usize::MAX, 1, &mut [FREE; 1])?;
+    ask(&rt, 15, 2, 15, usize::MAX, 15, 1, &mut [FREE; 1])?;
+    ask(&rt, 15, 2, 15, 0, 15, usize::MAX, &mut [FREE; 1])
 }

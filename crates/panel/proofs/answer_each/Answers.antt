@@ -1,4 +1,4 @@
-use Rattle.std.proofs.Common.{◌+◌, arith, length-drop, length-take}
+use Rattle.std.proofs.Common.{◌+◌, ◌∙◌, arith, length-drop, length-take}
 use Rattle.panel.proofs.Answering.{answering_none, next_fits, answering_more, answering_all}
 use Rattle.panel.proofs.answer_each.Goals as goal
 
@@ -23,7 +23,8 @@ loop-i-preserved c =
     let l = c.loop-i in
     let start = c.wide-start in
     let end = start.result + c.wide.result in
-    answering_more l.invariant (omega arith) start.result end _ start.ensures.0 (omega arith) c.first_probe.ensures
+    answering_more l.invariant (omega arith) start.result end _ start.ensures.0 (omega arith)
+    (c.unwrap_or.ensures ∙ c.first_probe.ensures)
 
 pub returns : goal.returns
 returns c = answering_all c.loop-i.invariant (omega arith)

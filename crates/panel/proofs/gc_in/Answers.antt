@@ -1,22 +1,23 @@
-use Rattle.std.proofs.Common.{◌≤◌, length, refl, ap, ◌∙◌, arith, take_all, rules}
-use Rattle.panel.specs.Probes.{gc_in}
-use Rattle.panel.proofs.Sliding.{gcs_next}
+-- The sum over the bytes is their number. Assumes nothing.
+use Rattle.std.proofs.Common.{◌<◌, ◌^◌, ◌∙◌, sym, arith, rules, tests}
+use Rattle.std.specs.List.{sum_by}
+use Rattle.std.proofs.lemmas.Iterator.{YieldsList-from_slice, YieldsList-from_map}
+use Rattle.std.proofs.lemmas.Iterator.Consumers.{sum_by_from_yields_List, fits_by_from_yields_list}
+use Rattle.panel.specs.Probes.{gc_of}
+use Rattle.panel.proofs.Sliding.{gcs_le, gcs_sum}
 use Rattle.panel.proofs.gc_in.Goals as goal
 
-pub loop-i-init : goal.loop-i-init
-unfolding gc_in
-loop-i-init c = (search rules, refl, omega arith)
-
-pub loop-i-preserved : goal.loop-i-preserved
-loop-i-preserved c =
-    let l = c.loop-i in
-    let text = c.args.text.now in
-    let e = gcs_next text l.i c.loop-i-test.true in
-    (search rules, omega (arith, e, l.invariant.1, c.gc-held.ensures.0), omega (arith, c.gc-held.ensures.1))
+pub sum-requires-clause-fits : goal.sum-requires-clause-fits
+sum-requires-clause-fits c =
+    let s = c.args.text.now in
+    let few : sum_by gc_of s < 2 ^ 64 = omega (arith, gcs_sum s, gcs_le s) in
+    fits_by_from_yields_list gc_of s c.map.result _
+    (YieldsList-from_map _ gc_of (YieldsList-from_slice s cc) c.map.ensures.closure (λ x r q k. search (rules, tests)))
+    few
 
 pub returns : goal.returns
 returns c =
-    let text = c.args.text.now in
-    let l = c.loop-i in
-    let h : length text ≤ l.i = omega arith in
-    l.invariant.1 ∙ ap gc_in (take_all l.i text h)
+    let s = c.args.text.now in
+    sum_by_from_yields_List gc_of s c.map.result _ c.sum.ensures.ran
+    (YieldsList-from_map _ gc_of (YieldsList-from_slice s cc) c.map.ensures.closure (λ x r q k. search (rules, tests)))
+    ∙ sym (gcs_sum s)
