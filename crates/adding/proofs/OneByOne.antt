@@ -67,18 +67,19 @@ module _ (κ : Kind) (rule : Rule) (K : ℕ) where
         rw (h, add_next, none_after κ rule K x vs i last.stored after.keys after.counts ls)
         (record { says = (refl, refl, q); keys_after = a.keys_after; counts_after = a.counts_after })
 
--- An error is a refusal.
-pub record Refused (e : AddError) : Type 0 where
+-- What adds nothing is a refusal.
+pub record Refused (r : Result Addition AddError) : Type 0 where
   pub number : ℕ
   pub values : List ℕ
-  pub is : add_answer (Err e) ≡ refuses number values
+  pub is : add_answer r ≡ refuses number values
 
-pub refused : (e : AddError) → Refused e
-refused (add.UnsupportedK x) = record { number = 1; values = x ∷ []; is = refl }
-refused (add.InvalidBase place byte) = record { number = 3; values = place ∷ byte ∷ []; is = refl }
-refused (add.TooLong x) = record { number = 4; values = x ∷ []; is = refl }
-refused add.Unfit = record { number = 5; values = []; is = refl }
-refused add.Full = record { number = 6; values = []; is = refl }
+pub refused : (r : Result Addition AddError) → ((a : Addition) → r ≡ Ok a → ⊥) → Refused r
+refused (Ok a) k = absurd (k a refl)
+refused (Err (add.UnsupportedK x)) k = record { number = 1; values = x ∷ []; is = refl }
+refused (Err (add.InvalidBase place byte)) k = record { number = 3; values = place ∷ byte ∷ []; is = refl }
+refused (Err (add.TooLong x)) k = record { number = 4; values = x ∷ []; is = refl }
+refused (Err add.Unfit) k = record { number = 5; values = []; is = refl }
+refused (Err add.Full) k = record { number = 6; values = []; is = refl }
 
 -- ---- the labels of an index
 
@@ -160,10 +161,9 @@ module _ {κ : Kind} {rule : Rule} {K n : ℕ} {keys₀ counts₀ text starts le
               long_counts = lc ∙ s.long_counts;
             }
 
-        pub added_ends : {e : AddError} → r ≡ Err e → AddsLabels n (Ok (tried i last.stored r)) keys' counts'
+        pub added_ends : Refused r → AddsLabels n (Ok (tried i last.stored r)) keys' counts'
             (add_each κ rule K (untried n keys₀ counts₀) (listed count text starts lengths))
-        added_ends {e} t =
-            let f = refused e in
+        added_ends f =
             rw (s.all, rest)
             (each_ends κ rule K i last keys counts (take (end - start) (drop start text)) (left text count starts lengths (i + 1)) a n
-            f.number f.values (ap add_answer t ∙ f.is))
+            f.number f.values f.is)

@@ -1,5 +1,5 @@
 -- A window of a label of bases: its k-mer, the canonical form of that, and the calls that find them. Assumes nothing.
-use mathlib.Core.Path.{◌≡◌, ap, ap₂, ◌∙◌}
+use mathlib.Core.Path.{◌≡◌, sym, ap, ap₂, ◌∙◌}
 use mathlib.Core.Bool.{Bool, true, not}
 use mathlib.Core.List.{List}
 use Prim.Native.Nat.{ℕ, ◌+◌, ◌≤◌, min}
@@ -7,15 +7,18 @@ use native.Mathlib.Omega.{arith}
 use lib.Dec.{ltb}
 use lib.ListN.{length, take, drop}
 use borrow.Author.Tests.{le-leb}
+use Rattle.std.specs.Prelude.{Result, Ok, IsOk}
 use Rattle.lemmas.proofs.Numbers.{same_test}
 use Rattle.kmer.specs.Kmer.{ok_k, rc, canon, is_canon}
 use Rattle.kmer.specs.Calls.{pack_call, canon_call}
 use Rattle.kmer.specs.Says.{value_of, kmer_of, Answers}
-use Rattle.kmer.specs.declared.Answered.{Answered}
+use Rattle.kmer.specs.declared.Kmer.{Kmer}
+use Rattle.kmer.specs.declared.KmerError.{KmerError}
 use Rattle.kmer.proofs.Wide.{value_back}
 use Rattle.kmer.proofs.Orders.{canon_test}
 use Rattle.kmer.proofs.Given.{kmer_given}
-use Rattle.graph.proofs.Packed.{window_packed, packed_small}
+use Rattle.graph.proofs.Adding.{window_lt}
+use Rattle.graph.proofs.Packed.{window_packed}
 use Rattle.graph.specs.Sightings.{window}
 use Rattle.adding.specs.Says.{Given, Sees}
 
@@ -28,21 +31,34 @@ unfolding canon
 straight_test K x =
     ap not (same_test (min x (rc K x)) x (rc K x) x (λ l. omega arith) (λ l. omega arith)) ∙ canon_test K x
 
+-- What the only k-mer that a call can return holds.
+value_given : {r : Result Kmer KmerError} {n : ℕ} {x : Kmer} → r ≡ Ok (kmer_of n) → r ≡ Ok x → value_of x ≡ n
+value_given {n = n} {x = x} e q = let same : x ≡ kmer_of n = let z : Ok x ≡ Ok (kmer_of n) = sym q ∙ e in cc in value_back n same
+
 module _ {K : ℕ} {label : List ℕ} (g : Given K label) (i : ℕ) (h : i + K ≤ length label) where
-  -- Packed and turned to its canonical form, and compared with that.
-  module _ {x y : Answered} (p : Answers x (pack_call K (take K (drop i label))))
-      (q : Answers y (canon_call K (value_of x.kmer))) where
-    packed_is : value_of x.kmer ≡ window K label i
-    packed_is = window_packed K (ok_given g) label g.bases i h p
+  -- Packed: it is not refused.
+  module _ {a : Result Kmer KmerError} (p : Answers a (pack_call K (take K (drop i label)))) where
+    packed : a ≡ Ok (kmer_of (window K label i))
+    packed = window_packed K (ok_given g) label g.bases i h p
 
-    canon_is : value_of y.kmer ≡ canon K (window K label i)
-    canon_is =
-        let e = kmer_given K (value_of x.kmer) (ok_given g) (packed_small K (ok_given g) label g.bases i h p) (canon K (value_of x.kmer)) q in
-        value_back (canon K (window K label i)) (ap (λ (a : Answered). a.kmer) e ∙ ap (λ (n : ℕ). kmer_of (canon K n)) packed_is)
+    pub packs : IsOk a
+    packs = rw packed
 
-    pub window_seen : {b : Bool} → b ≡ ltb (value_of y.kmer) (value_of x.kmer)
-        → Sees K label i (record { kmer = y.kmer; straight = not b })
-    window_seen e = record {
-      kmer = canon_is;
-      straight = ap not (e ∙ ap₂ ltb canon_is packed_is) ∙ straight_test K (window K label i);
-    }
+    -- Turned to its canonical form, and compared with that.
+    module _ {x : Kmer} (e : a ≡ Ok x) {b : Result Kmer KmerError} (q : Answers b (canon_call K (value_of x))) where
+      packed_is : value_of x ≡ window K label i
+      packed_is = value_given packed e
+
+      turned : b ≡ Ok (kmer_of (canon K (window K label i)))
+      turned =
+          kmer_given K (window K label i) (ok_given g) (window_lt K label i g.bases h) (canon K (window K label i)) (rw packed_is at q)
+
+      pub turns : IsOk b
+      turns = rw turned
+
+      pub window_seen : {y : Kmer} → b ≡ Ok y → {t : Bool} → t ≡ ltb (value_of y) (value_of x)
+          → Sees K label i (record { kmer = y; straight = not t })
+      window_seen f t = record {
+        kmer = value_given turned f;
+        straight = ap not (t ∙ ap₂ ltb (value_given turned f) packed_is) ∙ straight_test K (window K label i);
+      }

@@ -1,5 +1,5 @@
 // One label added.
-ghost use Rattle.std.specs.Prelude.{◌≡◌, [], ◌≤◌, ◌/◌, length};
+ghost use Rattle.std.specs.Prelude.{◌≡◌, [], ◌*◌, ◌≤◌, length};
 ghost use Rattle.dna.specs.Letters.{first_bad};
 ghost use Rattle.state.specs.Says.{kind_of};
 ghost use Rattle.graph.specs.Table.{keys_of};
@@ -91,7 +91,10 @@ fn add_in<const WINDOWS: usize, const WORDS: usize>(
     counts: &mut [u32],
     label: &[u8],
 ) -> Result<Addition, AddError>
-    requires { Addable k label.now n keys.old counts.old × (windows k label.now ≤ WINDOWS) × (WINDOWS ≤ WORDS / 2) }
+    requires addable { Addable k label.now n keys.old counts.old }
+    requires room { windows k label.now ≤ WINDOWS }
+    requires most { WINDOWS ≤ 4096 }
+    requires pairs { WORDS ≡ 2 * WINDOWS }
     ensures { Adds result keys.new counts.new (add_bases (kind_of kind) (rule_of mode) k n keys.old counts.old label.now []) }
 {
     let mut notes = [0u8; WINDOWS];

@@ -4,6 +4,7 @@ use mathlib.Core.Bool.{true, false}
 use Prim.Native.Nat.{◌-◌, ◌<◌}
 use native.Mathlib.Omega.{arith}
 use lib.ListN.{length}
+use Rattle.lemmas.proofs.Tests.{never}
 use Rattle.adding.specs.Says.{rule_of}
 use Rattle.adding.proofs.Skipping.{test_is}
 use Rattle.adding.proofs.Neighbours.{first_none, predecessor_is, bits_code}
@@ -23,7 +24,7 @@ returns-else-skips c =
     let label = c.args.label.now in
     let i : c.args.o - 1 < length label = omega (arith, c.requires.1, c.requires.0.low) in
     elim c.if-o-eq0.branch [
-      then-o-eq0 w ↦ let v = w.value-is in let f = c.if-skips.false in cc
+      then-o-eq0 w ↦ never c.if-o-eq0.value (rw w.if-o-eq0.true at w.value-is) c.if-skips.false
       | else-o-eq0 w ↦ c.valid_ascii_base_bits.ensures
           ∙ bits_code label (c.args.o - 1) i c.requires.0.bases
           ∙ predecessor_is (rule_of c.args.mode) c.args.k label c.args.o w.if-o-eq0.false false
