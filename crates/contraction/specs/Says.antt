@@ -1,5 +1,5 @@
 -- What contraction answers in document 01's numbers, and what its parts say. Assumes nothing.
-use Rattle.std.specs.Prelude.{ℕ, ◌+◌, ◌^◌, ◌≤◌, ◌<◌, ◌≡◌, Bool, Result, Ok, Err, List, [], ◌∷◌, map, length, set, drop}
+use Rattle.std.specs.Prelude.{ℕ, ◌+◌, ◌^◌, ◌≤◌, ◌<◌, ◌≡◌, true, false, Result, Ok, Err, List, [], ◌∷◌, map, length, set, drop}
 use Rattle.std.proofs.Math.Seq.{paste}
 use Rattle.dna.specs.Text.{over}
 use Rattle.dna.specs.Answer.{Answer, gives, refuses}
@@ -17,11 +17,10 @@ use Rattle.graph.specs.Labels.{Run, run}
 use Rattle.graph.specs.Contraction.{Entry, entries, end_to_end, ends_in, Totals, Contracted, finish}
 use Rattle.marks.specs.Marks.{ends, visits}
 use Rattle.contraction.specs.Over.{step_in, walk_in, extract_in, label_in, run_in}
-use Rattle.contraction.specs.Trail.{piece_in, label_from, piece_length}
+use Rattle.contraction.specs.Trail.{piece_in, trail_in, label_from, piece_length}
 use Rattle.contraction.specs.declared.Strands.{Strands}
 use Rattle.contraction.specs.declared.Walked.{Walked}
-use Rattle.contraction.specs.declared.Written.{Written}
-use Rattle.contraction.specs.declared.Extracted.{Extracted}
+use Rattle.contraction.specs.declared.Label.{Label}
 use Rattle.contraction.specs.declared.Unitigs.{Unitigs}
 use Rattle.contraction.specs.declared.ContractError.{ContractError}
 use Rattle.contraction.specs.declared.ContractError.TheVariants as contract
@@ -76,24 +75,35 @@ module _ (K : ℕ) (keys ms : List ℕ) where
     pub walks : Walks a start r after
     pub letters : buffer' ≡ paste buffer at (map letter_of (walk_in K keys ms a start).bases) (length (walk_in K keys ms a start).bases)
 
-  -- Anchor a's label, unwritten: its length, and whether a vertex was missing; its walks stand in the trail from a place on. With at
+  -- Anchor a's label, unwritten: its length; its walks came to no missing vertex, and stand in the trail from a place on. With at
   -- most 63 bases of the anchor and 65,536 of each walk it stays below 200,000, so that no sum over all anchors overflows.
-  pub record Extracts (a : ℕ) (r : Extracted) (after trail : List ℕ) (at : ℕ) (trail' : List ℕ) : Type 0 where
+  pub record Extracts (a : ℕ) (r : Label) (after trail : List ℕ) (at : ℕ) (trail' : List ℕ) : Type 0 where
     pub bases : r.bases ≡ length (label_in K keys ms a)
-    pub missed : r.missing ≡ (extract_in K keys ms a).missed
+    pub missed : (extract_in K keys ms a).missed ≡ false
     pub ends_kept : ends after ≡ ends ms
     pub visits_after : visits after ≡ (extract_in K keys ms a).marks
     pub few : r.bases ≤ 200000
     pub end : r.end ≡ at + length (piece_in K keys ms a)
     pub walks : trail' ≡ paste trail at (piece_in K keys ms a) (length (piece_in K keys ms a))
 
-  -- The labels of the first a vertices, unwritten: their number, their bases, and whether a vertex was missing.
-  pub record Surveys (a labels bases : ℕ) (missing : Bool) (after : List ℕ) : Type 0 where
+  -- Or one of its walks came to a missing vertex.
+  pub record Misses (a : ℕ) (e : ContractError) : Type 0 where
+    pub error : e ≡ contract.MissingVertex
+    pub missed : (extract_in K keys ms a).missed ≡ true
+
+  -- The labels of the first a vertices, unwritten: their number and their bases; no vertex was missing.
+  pub record Surveys (a labels bases : ℕ) (after : List ℕ) : Type 0 where
     pub number : labels ≡ length (run_in K keys ms a).labels
     pub total : bases ≡ length (end_to_end (run_in K keys ms a).labels)
-    pub missed : missing ≡ (run_in K keys ms a).missed
+    pub missed : (run_in K keys ms a).missed ≡ false
     pub ends_kept : ends after ≡ ends ms
     pub visits_after : visits after ≡ (run_in K keys ms a).marks
+
+  -- All vertices surveyed, their walks in the trail; or a vertex was missing.
+  abbrev pub Surveyed : Result Unitigs ContractError → List ℕ → List ℕ → List ℕ → Type 0
+  Surveyed (Ok all) after trail trail' =
+      Surveys (length ms) all.labels all.bases after × (trail' ≡ over (trail_in K keys ms (length ms)) trail)
+  Surveyed (Err e) after trail trail' = (e ≡ contract.MissingVertex) × ((run_in K keys ms (length ms)).missed ≡ true)
 
   -- The labels of all vertices have room.
   pub record Roomy (buffer starts lengths : ℕ) : Type 0 where
@@ -102,7 +112,7 @@ module _ (K : ℕ) (keys ms : List ℕ) where
     pub lengths_fit : length (run_in K keys ms (length ms)).labels ≤ lengths
 
 -- The label of k-mer x and of the piece that stands in the trail from a place on, written from a place of the buffer on.
-pub record WritesLabel (K x : ℕ) (trail : List ℕ) (from : ℕ) (r : Written) (buffer : List ℕ) (at : ℕ) (buffer' : List ℕ) : Type 0 where
+pub record WritesLabel (K x : ℕ) (trail : List ℕ) (from : ℕ) (r : Label) (buffer : List ℕ) (at : ℕ) (buffer' : List ℕ) : Type 0 where
   pub bases : r.bases ≡ length (label_from K x (drop from trail))
   pub end : r.end ≡ from + piece_length (drop from trail)
   pub letters : buffer' ≡ paste buffer at (label_from K x (drop from trail)) (length (label_from K x (drop from trail)))

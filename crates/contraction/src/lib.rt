@@ -67,26 +67,9 @@ struct Strands {
     other: Kmer,
 }
 
-// A label: its length, where its walks end in the trail, and whether a vertex was missing. No Option: a walk that misses a vertex has
-// marked others, and the walks that follow it are as long as if it had stopped.
+// A label: its length, and where its walks end in the trail.
 #[derive(Clone, Copy)]
-struct Extracted {
+struct Label {
     bases: usize,
     end: usize,
-    missing: bool,
-}
-
-// A label written: its length, and where its walks end in the trail.
-#[derive(Clone, Copy)]
-struct Written {
-    bases: usize,
-    end: usize,
-}
-
-// All labels: their number, their bases, and whether a vertex was missing.
-#[derive(Clone, Copy)]
-struct Surveyed {
-    labels: usize,
-    bases: usize,
-    missing: bool,
 }

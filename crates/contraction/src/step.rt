@@ -1,9 +1,10 @@
 // One step of a walk.
-ghost use Rattle.std.specs.Prelude.{◌≡◌, true, ◌<◌, length};
+ghost use Rattle.std.specs.Prelude.{◌≡◌, true, ◌/◌, ◌<◌, length};
 ghost use Rattle.dna.specs.Calls.{code_in};
 ghost use Rattle.kmer.specs.Kmer.{ok_k, forward};
 ghost use Rattle.kmer.specs.Says.{value_of};
 ghost use Rattle.graph.specs.Walks.{seen};
+ghost use Rattle.table.specs.Search.{key};
 ghost use Rattle.marks.specs.Ready.{keys_for, Ready};
 ghost use Rattle.contraction.specs.Over.{look_in, arrive_in, step_in};
 ghost use Rattle.contraction.specs.Says.{Both, Advances};
@@ -14,14 +15,22 @@ use graph::{Step, StopReason};
 use kmer::Kmer;
 use state::Side;
 
+// Vertex v's k-mer.
+pub(crate) fn key_at(keys: &[u64], v: usize) -> Kmer
+    requires { v < length keys.now / 2 }
+    ensures { value_of result ≡ key keys.now v }
+{
+    Kmer {
+        words: [keys[2 * v], keys[2 * v + 1]],
+    }
+}
+
 // Vertex v as a walk sees it that leaves by a side: canonical by Back, its reverse complement by Front.
 pub(crate) fn strands_of(k: usize, keys: &[u64], marks: &[u8], v: usize, side: Side) -> Strands
     requires { Ready k keys.now marks.now × (v < length marks.now) }
     ensures { Both k (seen k (keys_for marks.now keys.now) v side) result }
 {
-    let x = Kmer {
-        words: [keys[2 * v], keys[2 * v + 1]],
-    };
+    let x = key_at(keys, v);
     let y = x.reverse_complement(k).unwrap();
     match side {
         Side::Front => Strands { here: y, other: x },
@@ -34,13 +43,9 @@ pub(crate) fn rolled(k: usize, strands: Strands, base: Base) -> Strands
     requires { (ok_k k ≡ true) × (code_in base < 4) × Both k (value_of strands.here) strands }
     ensures { Both k (forward k (value_of strands.here) (code_in base)) result }
 {
-    let here = strands.here;
-    let other = strands.other;
-    let next = here.roll_forward(k, base).unwrap();
-    let turned = other.roll_backward(k, base.complement()).unwrap();
     Strands {
-        here: next,
-        other: turned,
+        here: strands.here.roll_forward(k, base).unwrap(),
+        other: strands.other.roll_backward(k, base.complement()).unwrap(),
     }
 }
 
@@ -79,32 +84,12 @@ fn arrive(
     requires { Ready k keys.now marks.now × Both k (value_of next.here) next }
     ensures { result ≡ arrive_in k keys.now marks.now anchor start (value_of next.here) base }
 {
-    let here = next.here;
-    let other = next.other;
-    if other.is_less(here) {
-        return look(
-            k,
-            keys,
-            directory,
-            marks,
-            anchor,
-            start,
-            other,
-            Side::Back,
-            base,
-        );
-    }
-    look(
-        k,
-        keys,
-        directory,
-        marks,
-        anchor,
-        start,
-        here,
-        Side::Front,
-        base,
-    )
+    let (y, side) = if next.other.is_less(next.here) {
+        (next.other, Side::Back)
+    } else {
+        (next.here, Side::Front)
+    };
+    look(k, keys, directory, marks, anchor, start, y, side, base)
 }
 
 // Vertex v, seen as its strands say, is left by a side: by its single retained edge, or the walk stops.
@@ -119,19 +104,19 @@ fn leave(
     side: Side,
     strands: Strands,
 ) -> Step
-    requires { Ready k keys.now marks.now × (v < length marks.now) × Both k (seen k (keys_for marks.now keys.now) v side) strands }
+    requires { Ready k keys.now marks.now × (v < length marks.now)
+        × Both k (seen k (keys_for marks.now keys.now) v side) strands }
     ensures { result ≡ step_in k keys.now marks.now anchor start v side }
 {
-    let edge = marks::edge_in(marks[v], side);
-    if edge == 5 {
-        return Step::Stop(StopReason::NoEdge);
+    match marks::edge_in(marks[v], side) {
+        5 => Step::Stop(StopReason::NoEdge),
+        4 => Step::Stop(StopReason::SeveralEdges),
+        edge => {
+            let base = marks::leaving_base(side, edge);
+            let next = rolled(k, strands, base);
+            arrive(k, keys, directory, marks, anchor, start, next, base.bits())
+        }
     }
-    if edge == 4 {
-        return Step::Stop(StopReason::SeveralEdges);
-    }
-    let base = marks::leaving_base(side, edge);
-    let next = rolled(k, strands, base);
-    arrive(k, keys, directory, marks, anchor, start, next, base.bits())
 }
 
 // Vertex v is marked and left by a side.
@@ -146,7 +131,8 @@ pub(crate) fn advance(
     side: Side,
     strands: Strands,
 ) -> Step
-    requires { Ready k keys.now marks.old × (v < length marks.old) × Both k (seen k (keys_for marks.old keys.now) v side) strands }
+    requires { Ready k keys.now marks.old × (v < length marks.old)
+        × Both k (seen k (keys_for marks.old keys.now) v side) strands }
     ensures { Advances k keys.now marks.old anchor start v side result marks.new }
 {
     marks[v] = marks[v] % 64 + 64;

@@ -13,27 +13,14 @@ use state::Side;
 pub(crate) fn is_closed(last: Step) -> bool
     ensures { result ≡ closed last }
 {
-    match last {
-        Step::Next { .. } => false,
-        Step::Stop(why) => match why {
-            StopReason::NoEdge => false,
-            StopReason::SeveralEdges => false,
-            StopReason::BranchingAhead => false,
-            StopReason::VisitedAhead(closed) => closed,
-        },
-        Step::Missing => false,
-    }
+    matches!(last, Step::Stop(StopReason::VisitedAhead(true)))
 }
 
 // The walk came to a vertex that is not stored.
 pub(crate) fn is_missing(last: Step) -> bool
     ensures { result ≡ missing last }
 {
-    match last {
-        Step::Next { .. } => false,
-        Step::Stop(_) => false,
-        Step::Missing => true,
-    }
+    matches!(last, Step::Missing)
 }
 
 // The walk from an anchor by a side, its letters written from a place of the buffer on.
@@ -55,27 +42,15 @@ pub(crate) fn spell(
     let mut s = start;
     let mut strands = step::strands_of(k, keys, marks, anchor, start);
     loop {
-        match step::advance(k, keys, directory, marks, anchor, start, v, s, strands) {
-            Step::Next { vertex, side, base } => {
-                let letter = marks::base_of(base);
-                strands = step::rolled(k, strands, letter);
-                buffer[at + bases] = letter.to_ascii();
-                v = vertex;
-                s = side;
-                bases += 1;
-            }
-            Step::Stop(why) => {
-                return Walked {
-                    bases,
-                    last: Step::Stop(why),
-                };
-            }
-            Step::Missing => {
-                return Walked {
-                    bases,
-                    last: Step::Missing,
-                };
-            }
-        }
+        let last = step::advance(k, keys, directory, marks, anchor, start, v, s, strands);
+        let Step::Next { vertex, side, base } = last else {
+            return Walked { bases, last };
+        };
+        let letter = marks::base_of(base);
+        strands = step::rolled(k, strands, letter);
+        buffer[at + bases] = letter.to_ascii();
+        v = vertex;
+        s = side;
+        bases += 1;
     }
 }

@@ -1,5 +1,5 @@
 // The whole contraction.
-ghost use Rattle.std.specs.Prelude.{◌≡◌, ◌||◌, ◌≤◌, ltb, length, take};
+ghost use Rattle.std.specs.Prelude.{◌≡◌, ◌||◌, ◌≤◌, ltb, length};
 ghost use Rattle.state.specs.Says.{kind_of};
 ghost use Rattle.graph.specs.Contraction.{contract as contracted, entries, sorted};
 ghost use Rattle.marks.specs.Marks.{visits};
@@ -12,10 +12,10 @@ use super::{ContractError, Unitigs, survey, write};
 use state::EdgeKind;
 
 // Whether the labels do not fit the buffer, or their entries do not fit one of the two slices.
-fn lacks_room(buffer: usize, starts: usize, lengths: usize, bases: usize, labels: usize) -> bool
-    ensures { result ≡ (ltb buffer bases || ltb starts labels || ltb lengths labels) }
+fn lacks_room(buffer: usize, starts: usize, lengths: usize, all: Unitigs) -> bool
+    ensures { result ≡ (ltb buffer all.bases || ltb starts all.labels || ltb lengths all.labels) }
 {
-    buffer < bases || starts < labels || lengths < labels
+    buffer < all.bases || starts < all.labels || lengths < all.labels
 }
 
 // The index put in byte order of the labels that it names. They are canonical and no two are the same, so there is no more to do.
@@ -27,7 +27,7 @@ fn normalize_unitigs(labels: &[u8], starts: &mut [u32], lengths: &mut [u32], cou
     let _sorted = sorting::sort_index(labels, starts, lengths, count);
 }
 
-// The labels and their index in byte order, for which there is room; how many there are. The marks are 0 and 1 afterwards.
+// The labels and their index in byte order, for which there is room. The marks are 0 and 1 afterwards.
 fn write_list(
     k: usize,
     keys: &[u64],
@@ -36,18 +36,20 @@ fn write_list(
     labels: &mut [u8],
     starts: &mut [u32],
     lengths: &mut [u32],
-) -> usize
-    requires { Ready k keys.now marks.old × Trails k keys.now marks.old trail.now × Roomy k keys.now marks.old (length labels.old) (length starts.old) (length lengths.old) }
-    ensures { (result ≡ length (run_in k keys.now marks.old (length marks.old)).labels) × (marks.new ≡ visits marks.old) × Lists (run_in k keys.now marks.old (length marks.old)) (sorted (entries 0 (run_in k keys.now marks.old (length marks.old)).labels)) labels.old labels.new starts.old starts.new lengths.old lengths.new }
+)
+    requires { Ready k keys.now marks.old × Trails k keys.now marks.old trail.now
+        × Roomy k keys.now marks.old (length labels.old) (length starts.old) (length lengths.old) }
+    ensures { let run = run_in k keys.now marks.old (length marks.old) in
+        (marks.new ≡ visits marks.old)
+        × Lists run (sorted (entries 0 run.labels)) labels.old labels.new starts.old starts.new lengths.old lengths.new }
 {
     let count = write::write_labels(k, keys, marks, trail, labels, starts, lengths);
     marks::settle(marks);
     normalize_unitigs(labels, starts, lengths, count);
-    count
 }
 
 // A fit table of as many vertices as there are marks. All walks are followed before the first byte is written: the trail has two
-// bytes for each of at most 65,536 vertices, which is enough.
+// bytes for each of at most 65,536 vertices, which is enough. Where nothing is written, the marks are 0 afterwards.
 fn contract_fit(
     kind: EdgeKind,
     k: usize,
@@ -60,59 +62,25 @@ fn contract_fit(
     marks: &mut [u8],
 ) -> Result<Unitigs, ContractError>
     requires { FitTable k keys.now counts.now marks.old }
-    ensures { Contracts result labels.new starts.new lengths.new marks.new (finish_in (kind_of kind) k cutoff (length marks.old) keys.now counts.now labels.old starts.old lengths.old marks.old) }
+    ensures { Contracts result labels.new starts.new lengths.new marks.new
+        (finish_in (kind_of kind) k cutoff (length marks.old) keys.now counts.now labels.old starts.old lengths.old marks.old) }
 {
     let mut trail = [0u8; 131072];
     marks::digest(kind, counts, cutoff, marks);
-    let all = survey::survey(k, keys, marks, &mut trail);
-    if all.missing {
-        marks::clear(marks);
-        return Err(ContractError::MissingVertex);
+    match survey::survey(k, keys, marks, &mut trail) {
+        Ok(all) if lacks_room(labels.len(), starts.len(), lengths.len(), all) => {
+            marks::clear(marks);
+            Err(ContractError::NoRoom)
+        }
+        Ok(all) => {
+            write_list(k, keys, marks, &trail, labels, starts, lengths);
+            Ok(all)
+        }
+        Err(why) => {
+            marks::clear(marks);
+            Err(why)
+        }
     }
-    if lacks_room(
-        labels.len(),
-        starts.len(),
-        lengths.len(),
-        all.bases,
-        all.labels,
-    ) {
-        marks::clear(marks);
-        return Err(ContractError::NoRoom);
-    }
-    let count = write_list(k, keys, marks, &trail, labels, starts, lengths);
-    Ok(Unitigs {
-        labels: count,
-        bases: all.bases,
-    })
-}
-
-// A fit table of n vertices, for which there are marks.
-fn contract_first(
-    kind: EdgeKind,
-    k: usize,
-    cutoff: u32,
-    n: usize,
-    keys: &[u64],
-    counts: &[u32],
-    labels: &mut [u8],
-    starts: &mut [u32],
-    lengths: &mut [u32],
-    marks: &mut [u8],
-) -> Result<Unitigs, ContractError>
-    requires { (n ≤ length marks.old) × FitTable k keys.now counts.now (take n marks.old) }
-    ensures { Contracts result labels.new starts.new lengths.new marks.new (finish_in (kind_of kind) k cutoff n keys.now counts.now labels.old starts.old lengths.old marks.old) }
-{
-    contract_fit(
-        kind,
-        k,
-        cutoff,
-        keys,
-        counts,
-        labels,
-        starts,
-        lengths,
-        &mut marks[..n],
-    )
 }
 
 // The unitigs of a table at a cutoff, or the first of the refusals 1, 5, 15, 7, 8, 9 that is due.
@@ -128,7 +96,8 @@ pub fn contract(
     lengths: &mut [u32],
     marks: &mut [u8],
 ) -> Result<Unitigs, ContractError>
-    ensures { Contracts result labels.new starts.new lengths.new marks.new (contracted (kind_of kind) k cutoff n keys.now counts.now labels.old starts.old lengths.old marks.old) }
+    ensures { Contracts result labels.new starts.new lengths.new marks.new
+        (contracted (kind_of kind) k cutoff n keys.now counts.now labels.old starts.old lengths.old marks.old) }
 {
     table::fit(kind, k, n, keys, counts)?;
     if !state::answers_for(kind, cutoff) {
@@ -137,7 +106,15 @@ pub fn contract(
     if marks.len() < n {
         return Err(ContractError::FewMarks);
     }
-    contract_first(
-        kind, k, cutoff, n, keys, counts, labels, starts, lengths, marks,
+    contract_fit(
+        kind,
+        k,
+        cutoff,
+        keys,
+        counts,
+        labels,
+        starts,
+        lengths,
+        &mut marks[..n],
     )
 }

@@ -12,7 +12,7 @@ ghost use Rattle.contraction.specs.Over.{run_in};
 ghost use Rattle.contraction.specs.Says.{WritesLabel, Writes, Roomy};
 ghost use Rattle.contraction.specs.Trail.{Ended, letter_count, Piece, label_from, Trails};
 
-use super::{CLOSED, SKIPPED, Written};
+use super::{CLOSED, Label, SKIPPED, step};
 use kmer::Kmer;
 
 // A k-mer's letters from a place of the buffer on.
@@ -20,8 +20,7 @@ fn put_letters(k: usize, x: Kmer, buffer: &mut [u8], at: usize)
     requires { (ok_k k ≡ true) × (value_of x < 4 ^ k) × (at + k ≤ length buffer.old) }
     ensures { buffer.new ≡ paste buffer.old at (letters k (value_of x)) k }
 {
-    let end = at + k;
-    let _written = x.append_ascii(k, &mut buffer[at..end]);
+    let _written = x.append_ascii(k, &mut buffer[at..at + k]);
 }
 
 // A part of the buffer made the smaller of its strands.
@@ -29,8 +28,7 @@ fn canonicalize_part(buffer: &mut [u8], at: usize, n: usize)
     requires { at + n ≤ length buffer.old }
     ensures { buffer.new ≡ paste buffer.old at (lesser (part buffer.old at n)) n }
 {
-    let end = at + n;
-    strands::canonical_label(&mut buffer[at..end]);
+    strands::canonical_label(&mut buffer[at..at + n]);
 }
 
 // How many letters a walk has in the trail, up to the byte that ends it: a letter is above all three bytes that are none.
@@ -38,11 +36,10 @@ fn walk_length(trail: &[u8], from: usize) -> usize
     requires { Ended (drop from trail.now) }
     ensures { result ≡ letter_count (drop from trail.now) }
 {
-    let mut i: usize = 0;
-    while SKIPPED < trail[from + i] {
-        i += 1;
-    }
-    i
+    trail[from..]
+        .iter()
+        .take_while(|byte| SKIPPED < **byte)
+        .count()
 }
 
 // A walk's letters copied from the trail.
@@ -50,11 +47,7 @@ fn copy_walk(trail: &[u8], from: usize, n: usize, buffer: &mut [u8], at: usize)
     requires { (from + n ≤ length trail.now) × (at + n ≤ length buffer.old) }
     ensures { buffer.new ≡ paste buffer.old at (part trail.now from n) n }
 {
-    let mut i: usize = 0;
-    while i < n {
-        buffer[at + i] = trail[from + i];
-        i += 1;
-    }
+    buffer[at..at + n].copy_from_slice(&trail[from..from + n]);
 }
 
 // A walk's letters copied as they are on the other strand.
@@ -63,21 +56,14 @@ fn copy_turned(trail: &[u8], from: usize, n: usize, buffer: &mut [u8], at: usize
     ensures { buffer.new ≡ paste buffer.old at (reverse_complement (part trail.now from n)) n }
 {
     copy_walk(trail, from, n, buffer, at);
-    let end = at + n;
-    strands::turn(&mut buffer[at..end]);
+    strands::turn(&mut buffer[at..at + n]);
 }
 
 // An anchor's label, made in its place: the Front walk on the other strand, the anchor's k-mer, the Back walk; or, where the Back
 // walk closed, the k-mer and the Back walk.
-fn write_label(
-    k: usize,
-    x: Kmer,
-    trail: &[u8],
-    from: usize,
-    buffer: &mut [u8],
-    at: usize,
-) -> Written
-    requires { (ok_k k ≡ true) × (value_of x < 4 ^ k) × Piece (drop from trail.now) × (at + length (label_from k (value_of x) (drop from trail.now)) ≤ length buffer.old) }
+fn write_label(k: usize, x: Kmer, trail: &[u8], from: usize, buffer: &mut [u8], at: usize) -> Label
+    requires { (ok_k k ≡ true) × (value_of x < 4 ^ k) × Piece (drop from trail.now)
+        × (at + length (label_from k (value_of x) (drop from trail.now)) ≤ length buffer.old) }
     ensures { WritesLabel k (value_of x) trail.now from result buffer.old at buffer.new }
 {
     let back = walk_length(trail, from);
@@ -86,7 +72,7 @@ fn write_label(
         put_letters(k, x, buffer, at);
         copy_walk(trail, from, back, buffer, at + k);
         canonicalize_part(buffer, at, k + back);
-        return Written {
+        return Label {
             bases: k + back,
             end: stop + 1,
         };
@@ -96,7 +82,7 @@ fn write_label(
     put_letters(k, x, buffer, at + front);
     copy_walk(trail, from, back, buffer, at + front + k);
     canonicalize_part(buffer, at, front + k + back);
-    Written {
+    Label {
         bases: front + k + back,
         end: stop + front + 2,
     }
@@ -112,28 +98,25 @@ pub(crate) fn write_labels(
     starts: &mut [u32],
     lengths: &mut [u32],
 ) -> usize
-    requires { Ready k keys.now marks.now × Trails k keys.now marks.now trail.now × Roomy k keys.now marks.now (length buffer.old) (length starts.old) (length lengths.old) }
-    ensures { Writes k keys.now marks.now (length marks.now) result (length (end_to_end (run_in k keys.now marks.now (length marks.now)).labels)) buffer.old buffer.new starts.old starts.new lengths.old lengths.new }
+    requires { Ready k keys.now marks.now × Trails k keys.now marks.now trail.now
+        × Roomy k keys.now marks.now (length buffer.old) (length starts.old) (length lengths.old) }
+    ensures { Writes k keys.now marks.now (length marks.now) result
+        (length (end_to_end (run_in k keys.now marks.now (length marks.now)).labels))
+        buffer.old buffer.new starts.old starts.new lengths.old lengths.new }
 {
     let mut labels: usize = 0;
     let mut at: usize = 0;
     let mut from: usize = 0;
-    let mut a: usize = 0;
-    while a < marks.len() {
+    for a in 0..marks.len() {
         if trail[from] == SKIPPED {
             from += 1;
-            a += 1;
         } else {
-            let x = Kmer {
-                words: [keys[2 * a], keys[2 * a + 1]],
-            };
-            let written = write_label(k, x, trail, from, buffer, at);
+            let label = write_label(k, step::key_at(keys, a), trail, from, buffer, at);
             starts[labels] = at as u32;
-            lengths[labels] = written.bases as u32;
+            lengths[labels] = label.bases as u32;
             labels += 1;
-            at += written.bases;
-            from = written.end;
-            a += 1;
+            at += label.bases;
+            from = label.end;
         }
     }
     labels
