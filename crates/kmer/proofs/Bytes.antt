@@ -1,14 +1,16 @@
 -- The bytes of a word, the lowest last, and the word that has eight bytes of a slice. Assumes nothing.
-use mathlib.Core.Path.{◌≡◌, refl, sym, ap, ap₂, ◌∙◌}
+use mathlib.Core.Path.{◌≡◌, refl, sym, ap, ◌∙◌}
 use mathlib.Core.List.{List, [], ◌∷◌, ◌++◌, append-nil, append_assoc}
 use Prim.Native.Nat.{ℕ, zero, suc, ◌+◌, ◌*◌, ◌/◌, ◌%◌, ◌^◌, ◌<◌, ◌≤◌}
-use native.Mathlib.Nat.{add-zero, add-suc, add-mul, mul_assoc}
+use native.Mathlib.Nat.{add-zero, add-suc}
 use native.Mathlib.Omega.{arith}
-use lib.Arith.{digits_div, digits_mod}
-use lib.Bits.{bit_or, or_shifted}
-use lib.ListN.{length, get_or, take, drop, length-append, length-drop}
-use lib.Pow.{pow-add, shl_lt, shl_exact, shr-shr}
-use lib.Seq.{take-suc, get_or-drop}
+use lib.Dec.{lit<}
+use lib.ListN.{length, get_or, take, drop, length-append}
+use lib.Pow.{shr-shr}
+use lib.Seq.{drop-cons}
+use mir.Syntax.{w64}
+use Rattle.std.specs.Int.{from_be_bytes, to_be_bytes}
+use Rattle.std.proofs.lemmas.Nat.{be_bytes_8}
 use Rattle.kmer.specs.Packing.{bytes_in}
 
 pub length_bytes : (n x : ℕ) → length (bytes_in n x) ≡ n
@@ -31,69 +33,54 @@ bytes_cat n (suc d) x =
 
 -- ---- eight bytes of a slice
 
--- A byte in its place: j bits stand below it.
-abbrev pub placed : (b j : ℕ) → ℕ
-placed b j = (b * 2 ^ j) % 2 ^ 64
+eight_bytes : (x : ℕ) → bytes_in 8 x ≡ to_be_bytes w64 x
+unfolding bytes_in
+eight_bytes x =
+    let e₂ : x / 256 / 256 ≡ x / 256 ^ 2 = omega arith in
+    let e₃ : x / 256 ^ 2 / 256 ≡ x / 256 ^ 3 = omega arith in
+    let e₄ : x / 256 ^ 3 / 256 ≡ x / 256 ^ 4 = omega arith in
+    let e₅ : x / 256 ^ 4 / 256 ≡ x / 256 ^ 5 = omega arith in
+    let e₆ : x / 256 ^ 5 / 256 ≡ x / 256 ^ 6 = omega arith in
+    let e₇ : x / 256 ^ 6 / 256 ≡ x / 256 ^ 7 = omega arith in
+    rw (e₂, e₃, e₄, e₅, e₆, e₇)
 
--- It comes below those of a number.
-or_byte : (y b j : ℕ) → b < 256 → 8 + j ≤ 64 → bit_or (y * 2 ^ (8 + j)) (placed b j) ≡ (y * 256 + b) * 2 ^ j
-or_byte y b j h l =
-    ap (bit_or (y * 2 ^ (8 + j))) (shl_exact 8 j 64 h l) ∙ or_shifted y (8 + j) (b * 2 ^ j) (shl_lt 8 j h)
-    ∙ ap (λ (n : ℕ). n + b * 2 ^ j) (ap (λ (n : ℕ). y * n) (pow-add 2 8 j) ∙ sym (mul_assoc y (2 ^ 8) (2 ^ j)))
-    ∙ sym (add-mul (y * 256) b (2 ^ j))
+-- Each number of a list is a byte.
+abbrev Each : List ℕ → Type 0
+Each l = (i : ℕ) → get_or l i 0 < 256
 
-module _ (s : List ℕ) (at : ℕ) (bytes : (i : ℕ) → get_or s i 0 < 256) where
-  -- The number of n bytes.
-  from : ℕ → ℕ
-  from zero = 0
-  from (suc n) = from n * 256 + get_or s (at + n) 0
+module _ (s : List ℕ) (at : ℕ) where
+  -- One byte, and n behind it.
+  byte : (i j n : ℕ) → i < length s → j ≡ suc i → get_or s i 0 ∷ take n (drop j s) ≡ take (suc n) (drop i s)
+  byte i j n h e = rw (e, drop-cons s i 0 h)
 
-  bytes_from : (n : ℕ) → at + n ≤ length s → bytes_in n (from n) ≡ take n (drop at s)
-  unfolding bytes_in from
-  bytes_from zero h = refl
-  bytes_from (suc n) h =
-      let b : ℕ = get_or s (at + n) 0 in
-      let long : n < length (drop at s) = simp length-drop (omega arith) in
-      ap₂ (λ (p q : ℕ). bytes_in n p ++ (q ∷ []))
-      (digits_div (from n) (bytes (at + n))) (digits_mod (from n) (bytes (at + n)))
-      ∙ ap (λ (l : List ℕ). l ++ (b ∷ [])) (bytes_from n (omega arith))
-      ∙ sym (take-suc (drop at s) n 0 long ∙ ap (λ (c : ℕ). take n (drop at s) ++ (c ∷ [])) (get_or-drop at s n 0))
+  abbrev eight : List ℕ
+  eight =
+      get_or s at 0 ∷ get_or s (at + 1) 0 ∷ get_or s (at + 2) 0 ∷ get_or s (at + 3) 0 ∷ get_or s (at + 4) 0 ∷ get_or s (at + 5) 0
+      ∷ get_or s (at + 6) 0 ∷ get_or s (at + 7) 0 ∷ []
 
-  more : (n j : ℕ) {w : ℕ} → 8 + j ≤ 64 → w ≡ from n * 2 ^ (8 + j) →
-      bit_or w (placed (get_or s (at + n) 0) j) ≡ from (suc n) * 2 ^ j
-  unfolding from
-  more n j l e =
-      let b : ℕ = get_or s (at + n) 0 in
-      ap (λ (v : ℕ). bit_or v (placed b j)) e ∙ or_byte (from n) b j (bytes (at + n)) l
+  eight_is : at + 8 ≤ length s → eight ≡ take 8 (drop at s)
+  eight_is h =
+      let b = byte at (at + 1) 7 (omega arith) (omega arith) in
+      let b₁ = byte (at + 1) (at + 2) 6 (omega arith) (omega arith) in
+      let b₂ = byte (at + 2) (at + 3) 5 (omega arith) (omega arith) in
+      let b₃ = byte (at + 3) (at + 4) 4 (omega arith) (omega arith) in
+      let b₄ = byte (at + 4) (at + 5) 3 (omega arith) (omega arith) in
+      let b₅ = byte (at + 5) (at + 6) 2 (omega arith) (omega arith) in
+      let b₆ = byte (at + 6) (at + 7) 1 (omega arith) (omega arith) in
+      let b₇ = byte (at + 7) (at + 8) 0 (omega arith) (omega arith) in
+      cc
 
-  first_four :
-      bit_or
-      (bit_or (bit_or (placed (get_or s at 0) 56) (placed (get_or s (at + 1) 0) 48)) (placed (get_or s (at + 2) 0) 40))
-      (placed (get_or s (at + 3) 0) 32)
-      ≡ from 4 * 2 ^ 32
-  unfolding from
-  first_four =
-      let e₁ : placed (get_or s at 0) 56 ≡ from 1 * 2 ^ 56 =
-      shl_exact 8 56 64 (bytes at) (omega arith)
-      ∙ ap (λ (i : ℕ). get_or s i 0 * 2 ^ 56) (sym (add-zero at)) ∙ omega arith in
-      more 3 32 (omega arith) (more 2 40 (omega arith) (more 1 48 (omega arith) e₁))
+  eight_each : Each s → Each eight
+  eight_each e zero = e at
+  eight_each e (suc zero) = e (at + 1)
+  eight_each e (suc (suc zero)) = e (at + 2)
+  eight_each e (suc (suc (suc zero))) = e (at + 3)
+  eight_each e (suc (suc (suc (suc zero)))) = e (at + 4)
+  eight_each e (suc (suc (suc (suc (suc zero))))) = e (at + 5)
+  eight_each e (suc (suc (suc (suc (suc (suc zero)))))) = e (at + 6)
+  eight_each e (suc (suc (suc (suc (suc (suc (suc zero))))))) = e (at + 7)
+  eight_each e (suc (suc (suc (suc (suc (suc (suc (suc i)))))))) = lit< tt
 
-  -- The bytes at `at` and behind, each in its place.
-  pub loaded : at + 8 ≤ length s →
-      bytes_in 8
-      (bit_or
-      (bit_or
-      (bit_or
-      (bit_or
-      (bit_or (bit_or (bit_or (placed (get_or s at 0) 56) (placed (get_or s (at + 1) 0) 48)) (placed (get_or s (at + 2) 0) 40))
-      (placed (get_or s (at + 3) 0) 32))
-      (placed (get_or s (at + 4) 0) 24))
-      (placed (get_or s (at + 5) 0) 16))
-      (placed (get_or s (at + 6) 0) 8))
-      (get_or s (at + 7) 0))
-      ≡ take 8 (drop at s)
-  unfolding from
-  loaded h =
-      let e₇ = more 6 8 (omega arith) (more 5 16 (omega arith) (more 4 24 (omega arith) first_four)) in
-      ap (λ (w : ℕ). bytes_in 8 (bit_or w (get_or s (at + 7) 0))) e₇
-      ∙ ap (bytes_in 8) (or_shifted (from 7) 8 (get_or s (at + 7) 0) (bytes (at + 7))) ∙ bytes_from 8 h
+  -- The word of the bytes at `at` and behind has them as its bytes.
+  pub loaded : (x : ℕ) → at + 8 ≤ length s → Each s → x ≡ from_be_bytes w64 eight → bytes_in 8 x ≡ take 8 (drop at s)
+  loaded x h bytes e = eight_bytes x ∙ be_bytes_8 eight x refl (eight_each bytes) e ∙ eight_is h

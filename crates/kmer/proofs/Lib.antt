@@ -8,11 +8,9 @@ pub mod Halves
 pub mod Ahead
 pub mod Telling
 pub mod Bounds
-pub mod Verdicts
 pub mod Orders
 pub mod Places
 pub mod Spelling
-pub mod Writing
 pub mod Strands
 pub mod Windows
 pub mod Testing
@@ -20,6 +18,5 @@ pub mod Packing
 pub mod Gathering
 pub mod Passing
 pub mod Groups
-pub mod Calls
 pub mod Texts
 pub mod Given

@@ -1,25 +1,18 @@
--- What this crate's enums say can be read back: no two of their cases say the same. Assumes nothing.
-use mathlib.Core.Path.{◌≡◌, refl, sym, ap, ap₂, ◌∙◌}
+-- What this crate's results say can be read back: no two of them say the same. Assumes nothing.
+use mathlib.Core.Path.{◌≡◌, refl, sym, ap, ◌∙◌}
 use mathlib.Core.Bool.{Bool}
 use mathlib.Core.List.{List, [], ◌∷◌}
 use Prim.Native.Nat.{ℕ}
-use native.Mathlib.Omega.{arith}
 use lib.ListN.{get_or}
+use Rattle.std.proofs.Common.{Result, Ok, Err, IfOk}
 use Rattle.dna.specs.Answer.{Answer, gives, refuses, Filled}
+use Rattle.dna.specs.Calls.{code_in}
+use Rattle.dna.specs.declared.Base.{Base}
 use Rattle.dna.proofs.Calls.{code_inj}
-use Rattle.kmer.specs.Says.{value_of, kmer_of, refusal, says_then, says_base, says_test, says_letters, number_in, Answers, Spells}
+use Rattle.kmer.specs.Says.{value_of, kmer_of, refusal, says, number_in, Answers, Spells}
 use Rattle.kmer.specs.declared.Kmer.{Kmer}
 use Rattle.kmer.specs.declared.KmerError.{KmerError}
 use Rattle.kmer.specs.declared.KmerError.TheVariants.{UnsupportedK, TooShort, InvalidBase, NoRoom, OutOfRange, NotBelow}
-use Rattle.kmer.specs.declared.KmerAnswer.{KmerAnswer}
-use Rattle.kmer.specs.declared.KmerAnswer.TheVariants as kmer
-use Rattle.kmer.specs.declared.Answered.{Answered}
-use Rattle.kmer.specs.declared.BaseAnswer.{BaseAnswer}
-use Rattle.kmer.specs.declared.BaseAnswer.TheVariants as base
-use Rattle.kmer.specs.declared.TestAnswer.{TestAnswer}
-use Rattle.kmer.specs.declared.TestAnswer.TheVariants as test
-use Rattle.kmer.specs.declared.LettersAnswer.{LettersAnswer}
-use Rattle.kmer.specs.declared.LettersAnswer.TheVariants as letters
 
 -- The refusal with a number and values, by document 01's table: 14 is past the list's end and read as its default, and no call here
 -- has another number that is not listed.
@@ -30,76 +23,63 @@ error_in r values =
     ∷ NotBelow ∷ NotBelow ∷ NotBelow ∷ NotBelow ∷ NotBelow ∷ NoRoom ∷ OutOfRange ∷ [])
     r NotBelow
 
--- What an answer gives, through g, or the refusal in it, through f.
-abbrev read : {A X : Type 0} → (A → X) → (KmerError → X) → Answer A → X
-read g f (gives a) = g a
-read g f (refuses r values) = f (error_in r values)
+-- What a call with an answer returns: g of what the answer gives, or the refusal in it.
+abbrev pub returned : {A B : Type 0} → (B → A) → Answer B → Result A KmerError
+returned g (gives b) = Ok (g b)
+returned g (refuses r values) = Err (error_in r values)
 
-read_refusal : {A X : Type 0} (g : A → X) (f : KmerError → X) (e : KmerError) → read g f (refusal e) ≡ f e
-read_refusal g f (UnsupportedK K) = refl
-read_refusal g f (TooShort n) = refl
-read_refusal g f (InvalidBase place byte) = refl
-read_refusal g f NoRoom = refl
-read_refusal g f OutOfRange = refl
-read_refusal g f NotBelow = refl
+refusal_back : {A B : Type 0} (g : B → A) (e : KmerError) → returned g (refusal e) ≡ Err e
+refusal_back g (UnsupportedK K) = refl
+refusal_back g (TooShort n) = refl
+refusal_back g (InvalidBase place byte) = refl
+refusal_back g NoRoom = refl
+refusal_back g OutOfRange = refl
+refusal_back g NotBelow = refl
 
 -- A refusal gives nothing.
 pub never_gives : {A P : Type 0} (e : KmerError) {a : A} → refusal e ≡ gives a → P
-never_gives {A} e {a} h =
-    let p : ◌≡◌ {A = ℕ} 1 0 =
-    sym (read_refusal (λ (x : A). 0) (λ (x : KmerError). 1) e) ∙ ap (read (λ (x : A). 0) (λ (x : KmerError). 1)) h in
-    absurd (omega arith)
+never_gives (UnsupportedK K) h = cc
+never_gives (TooShort n) h = cc
+never_gives (InvalidBase place byte) h = cc
+never_gives NoRoom h = cc
+never_gives OutOfRange h = cc
+never_gives NotBelow h = cc
 
 -- No two refusals are the same answer.
-refusal_one : (e f : KmerError) → refusal {A = ℕ} e ≡ refusal f → e ≡ f
-refusal_one e f h =
-    sym (read_refusal (λ (n : ℕ). NotBelow) (λ (g : KmerError). g) e) ∙ ap (read (λ (n : ℕ). NotBelow) (λ (g : KmerError). g)) h
-    ∙ read_refusal (λ (n : ℕ). NotBelow) (λ (g : KmerError). g) f
+refusal_one : {A : Type 0} (e f : KmerError) → refusal {A = A} e ≡ refusal f → e ≡ f
+refusal_one {A} e f h =
+    let p : ◌≡◌ {A = Result A KmerError} (Err e) (Err f) = sym (refusal_back (λ (a : A). a) e) ∙ ap (returned (λ (a : A). a)) h ∙ refusal_back (λ (a : A). a) f in cc
 
--- ---- each enum
-
--- What a call that makes a k-mer returns for an answer.
-abbrev pub kmer_in : Answer ℕ → Answered
-kmer_in a = record { answer = read (λ (n : ℕ). kmer.Done) kmer.Refused a; kmer = kmer_of (number_in a) }
+-- A result is known by what it says.
+pub told : {A : Type 0} (r : Result A KmerError) → r ≡ returned (λ a. a) (says (λ a. a) r)
+told (Ok a) = refl
+told {A} (Err e) = sym (refusal_back (λ (a : A). a) e)
 
 -- An answer fixes what a call that makes a k-mer returns.
-pub kmer_told : {r : Answered} {a : Answer ℕ} → Answers r a → r ≡ kmer_in a
-kmer_told {r} {a} t =
-    ap₂ (λ (v : KmerAnswer) (y : Kmer). record { answer = v; kmer = y })
-    (sym (back r.answer) ∙ ap (read (λ (n : ℕ). kmer.Done) kmer.Refused) t.answer) t.beside
+pub kmer_told : {r : Result Kmer KmerError} {a : Answer ℕ} → Answers r a → r ≡ returned kmer_of a
+kmer_told {r} {a} t = go r t.answer t.kmer
   where
-    back : (v : KmerAnswer) → read (λ (n : ℕ). kmer.Done) kmer.Refused (says_then v (gives (value_of r.kmer))) ≡ v
-    back kmer.Done = refl
-    back (kmer.Refused e) = read_refusal (λ (n : ℕ). kmer.Done) kmer.Refused e
-
-abbrev pub test_in : Answer Bool → TestAnswer
-test_in a = read test.Is test.Refused a
-
-pub test_told : (r : TestAnswer) → r ≡ test_in (says_test r)
-test_told (test.Is t) = refl
-test_told (test.Refused e) = sym (read_refusal test.Is test.Refused e)
-
-abbrev pub letters_in : Answer ℕ → LettersAnswer
-letters_in a = read letters.Written letters.Refused a
-
-pub letters_told : (r : LettersAnswer) → r ≡ letters_in (says_letters r)
-letters_told (letters.Written n) = refl
-letters_told (letters.Refused e) = sym (read_refusal letters.Written letters.Refused e)
+    go : (r : Result Kmer KmerError) → says value_of r ≡ a → IfOk r (λ x. x ≡ kmer_of (number_in a)) → r ≡ returned kmer_of a
+    go (Ok x) e k = ap Ok (k ∙ ap (λ (z : Answer ℕ). kmer_of (number_in z)) (sym e)) ∙ ap (returned kmer_of) e
+    go (Err d) e k = sym (refusal_back kmer_of d) ∙ ap (returned kmer_of) e
 
 -- ---- so two results of one call are one
 
-pub answers_one : {r s : Answered} {a : Answer ℕ} → Answers r a → Answers s a → r ≡ s
+-- Where f tells values apart, so does what is said by f.
+says_one : {A B : Type 0} (f : A → B) → ((x y : A) → f x ≡ f y → x ≡ y) → (r s : Result A KmerError) → says f r ≡ says f s → r ≡ s
+says_one f one (Ok x) (Ok y) h = ap Ok (one x y cc)
+says_one f one (Ok x) (Err e) h = never_gives e (sym h)
+says_one f one (Err e) (Ok x) h = never_gives e h
+says_one f one (Err d) (Err e) h = ap Err (refusal_one d e h)
+
+pub answers_one : {r s : Result Kmer KmerError} {a : Answer ℕ} → Answers r a → Answers s a → r ≡ s
 answers_one t u = kmer_told t ∙ sym (kmer_told u)
 
-pub base_one : (r s : BaseAnswer) → says_base r ≡ says_base s → r ≡ s
-base_one (base.Found b) (base.Found c) h = ap base.Found (code_inj b c (ap number_in h))
-base_one (base.Found b) (base.Refused e) h = never_gives e (sym h)
-base_one (base.Refused e) (base.Found b) h = never_gives e h
-base_one (base.Refused e) (base.Refused f) h = ap base.Refused (refusal_one e f h)
+pub base_one : (r s : Result Base KmerError) → says code_in r ≡ says code_in s → r ≡ s
+base_one = says_one code_in code_inj
 
-pub test_one : (r s : TestAnswer) → says_test r ≡ says_test s → r ≡ s
-test_one r s e = test_told r ∙ ap test_in e ∙ sym (test_told s)
+pub test_one : (r s : Result Bool KmerError) → says (λ t. t) r ≡ says (λ t. t) s → r ≡ s
+test_one = says_one (λ t. t) (λ s t e. e)
 
-pub spells_one : (r s : LettersAnswer) {out out' : List ℕ} {f : Filled} → Spells r out f → Spells s out' f → (r ≡ s) × (out ≡ out')
-spells_one r s t u =
-    (letters_told r ∙ ap letters_in (t.answer ∙ sym u.answer) ∙ sym (letters_told s), t.slice ∙ sym u.slice)
+pub spells_one : (r s : Result ℕ KmerError) {out out' : List ℕ} {f : Filled} → Spells r out f → Spells s out' f → (r ≡ s) × (out ≡ out')
+spells_one r s t u = (says_one (λ n. n) (λ m n e. e) r s (t.answer ∙ sym u.answer), t.slice ∙ sym u.slice)

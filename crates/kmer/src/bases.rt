@@ -30,6 +30,7 @@ pub(crate) fn digit(x: Kmer, j: usize) -> u8
 
 impl Kmer {
     // The base at a place, the first at 0.
+    #[tactic(auto, unfolding(crate::specs::Kmer::base_at))]
     pub fn get(self, k: usize, idx: usize) -> Result<Base, KmerError>
         ensures { says code_in result ≡ get_call k (value_of self) idx }
     {

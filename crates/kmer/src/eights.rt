@@ -12,25 +12,21 @@ pub(crate) struct Packed {
     pub(crate) strange: u64,
 }
 
-fn wide(byte: u8) -> u64
-    ensures { result ≡ byte }
-{
-    byte as u64
-}
-
-// The eight letters from a place on, written so that the compiler reads them at once.
+// The eight letters from a place on, which the compiler reads at once.
 fn eight(seq: &[u8], at: usize) -> u64
     requires { at + 8 ≤ length seq.now }
     ensures { bytes_in 8 result ≡ take 8 (drop at seq.now) }
 {
-    (wide(seq[at]) << 56)
-        | (wide(seq[at + 1]) << 48)
-        | (wide(seq[at + 2]) << 40)
-        | (wide(seq[at + 3]) << 32)
-        | (wide(seq[at + 4]) << 24)
-        | (wide(seq[at + 5]) << 16)
-        | (wide(seq[at + 6]) << 8)
-        | wide(seq[at + 7])
+    u64::from_be_bytes([
+        seq[at],
+        seq[at + 1],
+        seq[at + 2],
+        seq[at + 3],
+        seq[at + 4],
+        seq[at + 5],
+        seq[at + 6],
+        seq[at + 7],
+    ])
 }
 
 // Each letter's code, by the two bits that a base has by itself, moved together: in pairs of letters, in fours, then all.

@@ -33,7 +33,11 @@ fn put_quad(quad: u32, at: usize, out: &mut [u8])
     requires { at + 4 ≤ length out.old }
     ensures { out.new ≡ four_at out.old at (quad % 2 ^ 8) (quad / 2 ^ 8 % 2 ^ 8) (quad / 2 ^ 16 % 2 ^ 8) (quad / 2 ^ 24 % 2 ^ 8) }
 {
-    out[at..at + 4].copy_from_slice(&quad.to_le_bytes());
+    let [a, b, c, d] = quad.to_le_bytes();
+    out[at] = a;
+    out[at + 1] = b;
+    out[at + 2] = c;
+    out[at + 3] = d;
 }
 
 // The K mod 4 leading letters one by one, then four letters for each byte.
@@ -52,6 +56,7 @@ fn write(k: usize, x: Kmer, out: &mut [u8])
 
 impl Kmer {
     // The letters, first base first, from out's first cell on.
+    #[tactic(auto, using(crate::proofs::Spelling::length_letters))]
     pub fn append_ascii(self, k: usize, out: &mut [u8]) -> Result<usize, KmerError>
         ensures { Spells result out.new (letters_call k (value_of self) out.old) }
     {

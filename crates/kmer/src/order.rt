@@ -20,10 +20,7 @@ impl Kmer {
     pub fn is_same(self, other: Kmer) -> bool
         ensures { result ≡ eqb (value_of self) (value_of other) }
     {
-        if self.words[0] == other.words[0] {
-            return self.words[1] == other.words[1];
-        }
-        false
+        self == other
     }
 
     // The first of two k-mers is the smaller one.

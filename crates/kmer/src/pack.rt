@@ -62,6 +62,7 @@ fn pack(k: usize, seq: &[u8]) -> Packed
 
 impl Kmer {
     // The first K letters; what stands behind them is ignored.
+    #[tactic(auto, unfolding(crate::specs::Calls::pack_call, crate::specs::Calls::with_letters))]
     pub fn from_ascii(k: usize, seq: &[u8]) -> Result<Kmer, KmerError>
         ensures { Answers result (pack_call k seq.now) }
     {

@@ -7,10 +7,7 @@ fn ones(n: usize) -> u64
     requires { n ≤ 64 }
     ensures { result ≡ 2 ^ n - 1 }
 {
-    if n == 64 {
-        return 0xffff_ffff_ffff_ffff;
-    }
-    (1u64 << n) - 1
+    if n == 64 { u64::MAX } else { (1 << n) - 1 }
 }
 
 // The bits that the low word of a k-mer may use.

@@ -1,31 +1,17 @@
--- Refused as the verdict says; else the test of the two strands picks the smaller. Assumes nothing.
+-- The test of the two strands picks the smaller. Assumes nothing.
 use mathlib.Core.Path.{◌≡◌, sym, ap, ◌∙◌}
 use Prim.Native.Nat.{ℕ}
+use native.Mathlib.Omega.{arith}
 use lib.Dec.{ltb}
 use lib.ListN.{length, get_or}
 use mir.Syntax.{w64}
 use mir.Val.{Fits}
-use Rattle.dna.specs.Answer.{gives}
 use Rattle.kmer.specs.Kmer.{rc, canon}
 use Rattle.kmer.specs.Says.{value_of, kmer_of}
 use Rattle.kmer.proofs.Wide.{value_back, kmer_back}
 use Rattle.kmer.proofs.Orders.{canon_turned, canon_same}
-use Rattle.kmer.proofs.Verdicts.{passed, refuses_kmer, gives_kmer}
 use borrow.Author.Rules.{rules}
 use Rattle.kmer.proofs.Kmer.canonical.Goals as goal
-
-pub reversed-turned-requires : goal.reversed-turned-requires
-reversed-turned-requires c =
-    let a = c.args in
-    let p = passed a.k (value_of a.self) 1 0 _ c.verdict.ensures c.in-Done.is in
-    (p.least, p.most)
-
-pub returns-in-Refused : goal.returns-in-Refused
-returns-in-Refused c =
-    let a = c.args in
-    let x = value_of a.self in
-    refuses_kmer a.k x 1 0 _ c.verdict.ensures (gives (canon a.k x))
-    c.in-Refused.is c.refused.ensures
 
 pub returns-then-is_less : goal.returns-then-is_less
 returns-then-is_less c =
@@ -33,8 +19,7 @@ returns-then-is_less c =
     let x = value_of a.self in
     let turned = c.reversed-turned.ensures in
     let t = sym (ap (λ (n : ℕ). ltb n x) (value_back (rc a.k x) turned)) ∙ sym c.is_less.ensures ∙ c.if-is_less.true in
-    gives_kmer a.k x 1 0 _ c.verdict.ensures (canon a.k x)
-    c.in-Done.is (turned ∙ ap kmer_of (canon_turned a.k x t))
+    rw (turned ∙ ap kmer_of (canon_turned a.k x t)) (grind arith)
 
 pub returns-else-is_less : goal.returns-else-is_less
 returns-else-is_less c =
@@ -44,5 +29,6 @@ returns-else-is_less c =
     let t = sym (ap (λ (n : ℕ). ltb n x) (value_back (rc a.k x) turned)) ∙ sym c.is_less.ensures ∙ c.if-is_less.false in
     let f : Fits w64 (get_or c.args.self.words 0 0) = search rules in
     let two : length c.args.self.words ≡ 2 = search rules in
-    gives_kmer a.k x 1 0 _ c.verdict.ensures (canon a.k x)
-    c.in-Done.is (sym (kmer_back a.self two f.fits) ∙ ap kmer_of (canon_same a.k x t))
+    let h = canon_same a.k x t in
+    let e = sym (kmer_back a.self two f.fits) ∙ ap kmer_of h in
+    grind arith

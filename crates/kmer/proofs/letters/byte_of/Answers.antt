@@ -1,16 +1,12 @@
 -- A byte never crosses the border of the words. Assumes nothing.
 use Prim.Native.Nat.{◌*◌}
 use native.Mathlib.Omega.{arith}
-use lib.Bits.{mask_lt}
 use lib.ListN.{get_or}
 use mir.Syntax.{w64}
 use mir.Val.{Fits}
 use Rattle.kmer.proofs.Places.{field_of}
 use borrow.Author.Rules.{rules}
 use Rattle.kmer.proofs.letters.byte_of.Goals as goal
-
-pub overflow_cast-result : goal.overflow_cast-result
-overflow_cast-result c = record { fits = mask_lt c.bits_from.result 8 }
 
 pub returns : goal.returns
 returns c =

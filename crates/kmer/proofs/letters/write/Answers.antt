@@ -1,4 +1,5 @@
-use mathlib.Core.Path.{◌≡◌, refl, ap, ◌∙◌}
+-- Each quad is that of its byte. Assumes nothing.
+use mathlib.Core.Path.{◌≡◌, ap, ◌∙◌}
 use mathlib.Core.List.{List}
 use Prim.Native.Nat.{ℕ, ◌+◌, ◌-◌, ◌*◌, ◌/◌, ◌%◌}
 use native.Mathlib.Omega.{arith}
@@ -15,9 +16,6 @@ use Rattle.kmer.proofs.letters.write.Goals as goal
 recount : (text s out : List ℕ) {i j : ℕ} → i ≡ j → Built text s out i → Built text s out j
 recount text s out e b = rw e at b
 
-pub loop-i-init : goal.loop-i-init
-loop-i-init c = (search rules, search rules, refl, λ s h b. recount _ s _ (omega arith) b)
-
 pub loop-i-preserved : goal.loop-i-preserved
 loop-i-preserved c =
     let byte = c.byte_of-byte in
@@ -26,20 +24,16 @@ loop-i-preserved c =
     let k = a.k in
     let j = k / 4 - 1 - l.i in
     let at = k % 4 + 4 * l.i in
-    let quad = ap (λ (q : List ℕ). get_or q byte.result 0) c.table-quads.ensures ∙ made_at quad_of 256 byte.result (search rules) in (
-      search rules,
-      l.invariant.1,
-      search rules,
-      λ s h b.
-          rw c.put_quad.ensures
-          (recount _ s _ {i = at + 4} (omega arith)
-          (built_quad k (value_of a.x) j at (omega arith) s l.out _ (quad ∙ ap quad_of byte.ensures) h (l.invariant.3 s h b))),
-    )
+    let quad = ap (λ (q : List ℕ). get_or q byte.result 0) c.table-quads.ensures ∙ made_at quad_of 256 byte.result (search rules) in
+    λ s h b.
+    rw c.put_quad.ensures
+    (recount _ s _ {i = at + 4} (omega arith)
+    (built_quad k (value_of a.x) j at (omega arith) s l.out _ (quad ∙ ap quad_of byte.ensures) h (l.invariant s h b)))
 
 pub returns : goal.returns
 returns c =
     let l = c.loop-i in
     let a = c.args in
-    let b = l.invariant.3 a.out.now (search rules) c.leading.ensures in
+    let b = l.invariant a.out.now (search rules) c.leading.ensures in
     let n = length_letters a.k (value_of a.x) in
     built_all (letters a.k (value_of a.x)) a.out.now l.out _ b (omega arith)

@@ -1,8 +1,7 @@
 -- The leading letters, then with each turn four letters more: whatever slice the leading letters were written into, they are
 -- written there too. Assumes nothing.
-use mathlib.Core.Path.{◌≡◌}
 use mathlib.Core.List.{List}
-use Prim.Native.Nat.{ℕ, ◌+◌, ◌-◌, ◌*◌, ◌/◌, ◌%◌, ◌≤◌}
+use Prim.Native.Nat.{ℕ, ◌+◌, ◌*◌, ◌%◌, ◌≤◌}
 use lib.ListN.{length}
 use Rattle.lemmas.proofs.Building.{Built}
 use Rattle.kmer.specs.Kmer.{letters}
@@ -11,8 +10,4 @@ use Rattle.kmer.proofs.letters.write.Given as goal
 
 abbrev pub invariant-loop-i : goal.invariant-loop-i
 invariant-loop-i l =
-    (l.i ≤ l.k / 4) × (l.k ≤ length l.initial.out) × (length l.out ≡ length l.initial.out)
-    × ((s : List ℕ) → l.k ≤ length s → Built (letters l.k (value_of l.x)) s l.initial.out (l.k % 4) → Built (letters l.k (value_of l.x)) s l.out (l.k % 4 + 4 * l.i))
-
-abbrev pub decreases-loop-i : goal.decreases-loop-i
-decreases-loop-i l = l.count - l.i
+    (s : List ℕ) → l.k ≤ length s → Built (letters l.k (value_of l.x)) s l.initial.out (l.k % 4) → Built (letters l.k (value_of l.x)) s l.out (l.k % 4 + 4 * l.i)

@@ -1,12 +1,8 @@
--- The loop's invariant: the word holds the first i letters. Assumes nothing.
+-- The word holds the letters so far. Assumes nothing.
 use mathlib.Core.Path.{◌≡◌}
-use Prim.Native.Nat.{◌≤◌, ◌-◌}
-use lib.ListN.{length, take}
+use lib.ListN.{take}
 use Rattle.kmer.specs.Packing.{valid_packed}
 use Rattle.kmer.proofs.pack.word_of.Given as goal
 
-abbrev pub invariant-loop-i : goal.invariant-loop-i
-invariant-loop-i l = (l.i ≤ length l.seq) × (l.word ≡ valid_packed (take l.i l.seq))
-
-abbrev pub decreases-loop-i : goal.decreases-loop-i
-decreases-loop-i l = length l.seq - l.i
+abbrev pub invariant-loop-byte : goal.invariant-loop-byte
+invariant-loop-byte l = l.word ≡ valid_packed (take l.byte-index l.seq)
