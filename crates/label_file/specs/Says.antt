@@ -40,7 +40,7 @@ Sound file = file_of file ≡ holds (k_in file) (cutoff_in file) (labels_of (fil
 -- What the check of the form says of a file.
 abbrev pub form_says : Result (Unit {0}) Refusal → List ℕ → Type 0
 form_says (Ok u) file = Sound file
-form_says (Err e) file = (e.reason ≡ reason.Damaged) × (file_of file ≡ damaged e.record)
+form_says (Err e) file = (e.reason ≡ reason.Damaged) × (file_of file ≡ damaged e.at)
 
 -- What is done with K, the cutoff, the labels and the buffers.
 abbrev pub Doing : Type 0
@@ -59,7 +59,7 @@ abbrev pub head_says : Result Head Refusal → List ℕ → Type 0
 head_says (Ok h) file =
     Sound file × ((doing : Doing) (b : Buffers) → on_file doing b file ≡ doing h.k h.cutoff (labels_of (file_of file)) b)
 head_says (Err e) file =
-    (doing : Doing) (b : Buffers) → on_file doing b file ≡ refused (number_of e.reason) e.record b
+    (doing : Doing) (b : Buffers) → on_file doing b file ≡ refused (number_of e.reason) e.at b
 
 -- An index of a file's labels, each of which lies within the file.
 pub record Indexes (file : List ℕ) (count : ℕ) (starts lengths : List ℕ) : Type 0 where
@@ -72,7 +72,7 @@ pub record Indexes (file : List ℕ) (count : ℕ) (starts lengths : List ℕ) :
 abbrev pub taking_says : Result Taken Refusal → Several → Type 0
 taking_says (Ok t) s = ((e : Edges) × (s.answer ≡ gives e)) × (t.vertices ≡ s.stored) × (t.records ≡ suc s.labels)
 taking_says (Err e) s =
-    ((vs : List ℕ) × (s.answer ≡ refuses (number_of e.reason) vs)) × (e.record ≡ suc s.labels)
+    ((vs : List ℕ) × (s.answer ≡ refuses (number_of e.reason) vs)) × (e.at ≡ suc s.labels)
 
 -- Labels added: what is said of them, and the table's slices at exit.
 pub record Takes (r : Result Taken Refusal) (keys counts : List ℕ) (s : Several) : Type 0 where
@@ -83,18 +83,18 @@ pub record Takes (r : Result Taken Refusal) (keys counts : List ℕ) (s : Severa
 -- A refusal after p records.
 abbrev pub at_record : ℕ → Result ℕ Reason → Result ℕ Refusal
 at_record p (Ok n) = Ok n
-at_record p (Err e) = Err (record { reason = e; record = p })
+at_record p (Err e) = Err (record { reason = e; at = p })
 
 -- What is left where the text was filled, or where the line of a refusal is still to be put into it.
 abbrev pub Leaves : Result ℕ Refusal → Buffers → Left → Type 0
 Leaves (Ok n) b l = l ≡ record { answer = gives n; buffers = b }
-Leaves (Err e) b l = l ≡ refused (number_of e.reason) e.record b
+Leaves (Err e) b l = l ≡ refused (number_of e.reason) e.at b
 
 -- The line of a judgement.
 abbrev pub line_of : Result (Option Broken) Refusal → List ℕ
 line_of (Ok None) = verdict_line yes
 line_of (Ok (Some b)) = verdict_line (no b.rule b.label)
-line_of (Err e) = refusal (number_of e.reason) e.record
+line_of (Err e) = refusal (number_of e.reason) e.at
 
 -- A number's digits put in front of what stands from a place on; r is the place of the first.
 pub record Prefixes (x : ℕ) (s : List ℕ) (at r : ℕ) (s' : List ℕ) : Type 0 where

@@ -42,7 +42,7 @@ fn check_form(file: &[u8]) -> Result<(), Refusal>
     if 16384 < file.len() || !is_headed(file) {
         return Err(Refusal {
             reason: Reason::Damaged,
-            record: 0,
+            at: 0,
         });
     }
     let mut record = 1;
@@ -51,7 +51,7 @@ fn check_form(file: &[u8]) -> Result<(), Refusal>
         if !is_labelled(&file[at..]) {
             return Err(Refusal {
                 reason: Reason::Damaged,
-                record,
+                at: record,
             });
         }
         at += 4 + two_bytes(file, at + 2);
@@ -69,7 +69,7 @@ pub(crate) fn read_head(file: &[u8]) -> Result<Head, Refusal>
     if !(1..=63).contains(&k) {
         return Err(Refusal {
             reason: Reason::UnsupportedK,
-            record: 0,
+            at: 0,
         });
     }
     let cutoff = u32::from_le_bytes([file[3], file[4], file[5], file[6]]);

@@ -34,7 +34,7 @@ fn judge_file(
         Ok(verdict) => Ok(verdict),
         Err(error) => Err(Refusal {
             reason: Reason::from(error),
-            record: if error == JudgeError::EvenK { 0 } else { records },
+            at: if error == JudgeError::EvenK { 0 } else { records },
         }),
     }
 }

@@ -66,7 +66,7 @@ pub(crate) fn tell(word: &[u8], first: usize, second: usize, text: &mut [u8]) ->
 
 // A refusal's number and its record, in the text.
 pub(crate) fn refuse(why: Refusal, text: &mut [u8]) -> Result<usize, NoRoom>
-    ensures { Fills result text.new (fill 11 (refusal (number_of why.reason) why.record) text.old) }
+    ensures { Fills result text.new (fill 11 (refusal (number_of why.reason) why.at) text.old) }
 {
-    tell(b"R ", why.reason.number(), why.record, text)
+    tell(b"R ", why.reason.number(), why.at, text)
 }

@@ -62,7 +62,7 @@ pub(crate) fn take_labels(
         }),
         Err(error) => Err(Refusal {
             reason: Reason::from(error),
-            record: records,
+            at: records,
         }),
     }
 }
@@ -123,7 +123,7 @@ fn list_file(
         Ok(size) => Ok(size),
         Err(reason) => Err(Refusal {
             reason,
-            record: records,
+            at: records,
         }),
     }
 }

@@ -34,7 +34,7 @@ pub(crate) enum Reason {
 #[derive(Clone, Copy, PartialEq, Eq, Debug)]
 pub(crate) struct Refusal {
     pub(crate) reason: Reason,
-    pub(crate) record: usize,
+    pub(crate) at: usize,
 }
 
 impl Reason {

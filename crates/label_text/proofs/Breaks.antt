@@ -1,61 +1,64 @@
--- The lines of a text from a place on: one line, then those from behind its newline on. Assumes nothing.
-use mathlib.Core.Path.{◌≡◌, ◌∙◌}
-use mathlib.Core.Bool.{cond}
-use mathlib.Core.Logic.{⊎_elim}
-use mathlib.Core.List.{List, [], ◌∷◌, ◌++◌, append-nil, append_assoc}
-use Prim.Native.Nat.{ℕ, zero, suc, ◌+◌, ◌-◌, ◌≤◌, ◌<◌}
-use native.Mathlib.Nat.{le_of_suc-le-suc, not-suc-le-zero}
-use native.Mathlib.Numerals.{add-one}
-use native.Mathlib.Omega.{arith}
-use borrow.Author.Tests.{le-leb, lt-leb, eq-eqb, ne_eqb}
-use lib.Dec.{leb}
-use lib.ListN.{length, get_or, take, drop, length-drop, drop_of_length-le, get_or-eq_default}
-use lib.Seq.{drop-cons, drop-drop, get_or-drop}
-use Rattle.lemmas.proofs.Numbers.{lt_or_ge}
-use Rattle.dna.specs.Text.{part}
+-- The lines of a text are what it is cut into at its newlines, trimmed. Assumes nothing.
+use mathlib.Core.Path.{◌≡◌, refl, ap}
+use mathlib.Core.Bool.{Bool, true, false}
+use mathlib.Core.List.{List, [], ◌∷◌, ◌++◌, map, append-nil, append_assoc}
+use Prim.Native.Nat.{ℕ, ◌+◌, ◌<◌}
+use lib.Dec.{eqb}
+use lib.ListN.{length, get_or, drop}
+use lib.Seq.{drop-length}
+use Rattle.std.proofs.lemmas.List.{drop_more}
+use Rattle.std.specs.List.{slice_split, onto_first}
+use Rattle.lemmas.proofs.Tests.{choose}
 use Rattle.label_text.specs.Lines.{trimmed, lines_from}
-use Rattle.label_text.specs.Says.{EndsLine}
 
--- The lines from a place on; none from a place past the text's end.
-unfoldable pub lines_at : List ℕ → ℕ → List (List ℕ)
-lines_at text i = cond (leb i (length text)) (lines_from [] (drop i text)) []
+-- The lines, before they are trimmed.
+abbrev pub cut : List ℕ → List (List ℕ)
+cut text = slice_split (λ b. eqb b 10) text
 
-pub lines_all : (text : List ℕ) → lines_at text 0 ≡ lines_from [] text
-unfolding lines_at
-lines_all text = rw (le-leb 0 (length text) (omega arith))
+-- What has begun, in front of the first of some parts.
+onto : List ℕ → List (List ℕ) → List (List ℕ)
+onto l [] = l ∷ []
+onto l (part ∷ parts) = (l ++ part) ∷ parts
 
-pub lines_none : (text : List ℕ) (i : ℕ) → length text < i → lines_at text i ≡ []
-unfolding lines_at
-lines_none text i h = rw (lt-leb i (length text) h)
+onto_none : (s : List ℕ) → onto [] (cut s) ≡ cut s
+unfolding onto
+onto_none [] = refl
+onto_none (b ∷ s) = choose (λ parts. onto [] parts ≡ parts) (eqb b 10) (λ _. refl) (λ _. first (cut s))
+  where
+    first : (parts : List (List ℕ)) → onto [] (onto_first b parts) ≡ onto_first b parts
+    first [] = refl
+    first (part ∷ parts) = refl
 
--- Bytes without a newline belong to the line that has begun.
-no_break : (n : ℕ) (l s : List ℕ) → n ≤ length s → ((i : ℕ) → i < n → get_or s i 0 ≡ 10 → ⊥)
-    → lines_from l s ≡ lines_from (l ++ take n s) (drop n s)
-unfolding lines_from
-no_break zero l s h none = rw append-nil
-no_break (suc n) l [] h none = absurd (not-suc-le-zero h)
-no_break (suc n) l (b ∷ s) h none =
-    rw (ne_eqb b 10 (none 0 (omega arith)))
-    (no_break n (l ++ (b ∷ [])) s (le_of_suc-le-suc h) (λ i u. none (suc i) (omega arith)) ∙ rw append_assoc)
+onto_more : (l : List ℕ) (b : ℕ) (parts : List (List ℕ)) → onto l (onto_first b parts) ≡ onto (l ++ (b ∷ [])) parts
+unfolding onto
+onto_more l b [] = refl
+onto_more l b (part ∷ parts) = rw append_assoc
 
-module _ (text : List ℕ) (at r : ℕ) (e : EndsLine text at r) where
-  to_break : lines_from [] (drop at text) ≡ lines_from (part text at (r - at)) (drop r text)
-  to_break =
-      let n : at + (r - at) ≡ r = omega (arith, e.from) in
-      no_break (r - at) [] (drop at text) (omega (arith, length-drop at text, e.within, e.from))
-      (λ i u. rw get_or-drop (e.before (at + i) (omega arith) (omega arith)))
-      ∙ rw (drop-drop, n)
+lines_onto : (l s : List ℕ) → lines_from l s ≡ map trimmed (onto l (cut s))
+unfolding lines_from onto
+lines_onto l [] = rw append-nil
+lines_onto l (b ∷ s) = at_byte (eqb b 10) refl (lines_onto [] s) (lines_onto (l ++ (b ∷ [])) s)
+  where
+    At : List ℕ → Type 0
+    At l' = lines_from l' s ≡ map trimmed (onto l' (cut s))
 
-  pub lines_next : lines_at text at ≡ trimmed (part text at (r - at)) ∷ lines_at text (r + 1)
-  unfolding lines_at lines_from
-  lines_next =
-      rw (le-leb at (length text) (omega (arith, e.from, e.within)), to_break)
-      (⊎_elim last (λ t. ⊎_elim (more t) (λ h. absurd (omega (arith, get_or-eq_default text 0 {n = r} h))) (lt_or_ge r (length text)))
-      e.there)
-    where
-      last : r ≡ length text → lines_from (part text at (r - at)) (drop r text) ≡ trimmed (part text at (r - at)) ∷ lines_at text (r + 1)
-      last l = rw (lines_none text (r + 1) (omega arith), drop_of_length-le text {i = r} (omega arith))
+    at_byte : (t : Bool) → eqb b 10 ≡ t → At [] → At (l ++ (b ∷ [])) → lines_from l (b ∷ s) ≡ map trimmed (onto l (cut (b ∷ s)))
+    at_byte true e new on = rw (e, append-nil, new, onto_none s)
+    at_byte false e new on = rw (e, onto_more l b (cut s)) on
 
-      more : get_or text r 0 ≡ 10 → r < length text
-          → lines_from (part text at (r - at)) (drop r text) ≡ trimmed (part text at (r - at)) ∷ lines_at text (r + 1)
-      more t l = rw (drop-cons text r 0 l, eq-eqb (get_or text r 0) 10 t, le-leb (r + 1) (length text) (omega arith), add-one)
+pub lines_cut : (text : List ℕ) → lines_from [] text ≡ map trimmed (cut text)
+lines_cut text = rw (lines_onto [] text, onto_none text)
+
+-- The lines that are left behind the first k.
+abbrev pub lines_after : List ℕ → ℕ → List (List ℕ)
+lines_after text k = map trimmed (drop k (cut text))
+
+pub lines_next : (text : List ℕ) (k : ℕ) (line : List ℕ) → k < length (cut text) → line ≡ get_or (cut text) k line
+    → lines_after text k ≡ trimmed line ∷ lines_after text (k + 1)
+lines_next text k line h e =
+    let more = drop_more (cut text) k line h in
+    let parts : drop k (cut text) ≡ line ∷ drop (k + 1) (cut text) = cc in
+    ap (map trimmed) parts
+
+pub lines_none : (text : List ℕ) (k : ℕ) → k ≡ length (cut text) → lines_after text k ≡ []
+lines_none text k e = rw (e, drop-length (cut text))

@@ -1,10 +1,8 @@
+pub mod Marks
 pub mod Breaks
-pub mod Ends
 pub mod Cells
 pub mod Remaining
 pub mod Growing
 pub mod Steps
-pub mod Marks
 pub mod Turns
 pub mod Says
-pub mod Roundtrip

@@ -1,17 +1,10 @@
 -- What the parts of packing say. Assumes nothing.
-use Rattle.std.specs.Prelude.{ℕ, ◌+◌, ◌≤◌, ◌<◌, ◌≡◌, Bool, true, false, ◌⊎◌, List, [], ◌∷◌, ◌++◌, length, get_or, take, Result, Ok, Err}
+use Rattle.std.specs.Prelude.{ℕ, ◌+◌, ◌≤◌, ◌<◌, ◌≡◌, Bool, true, false, List, [], ◌∷◌, ◌++◌, length, take, Result, Ok, Err}
 use Rattle.dna.specs.Text.{part}
 use Rattle.label_text.specs.Lines.{sequences, filled, labels_in}
 use Rattle.label_text.specs.Packing.{label_records, packed}
 use Rattle.label_text.specs.declared.TooLarge.{TooLarge}
 use Rattle.label_text.specs.declared.packing.Open.{Open}
-
--- The line that begins at a place goes on to r: there is no newline before, and there is one at r unless the text ends.
-pub record EndsLine (text : List ℕ) (at r : ℕ) : Type 0 where
-  pub from : at ≤ r
-  pub within : r ≤ length text
-  pub before : (i : ℕ) → i < r → at ≤ i → get_or text i 0 ≡ 10 → ⊥
-  pub there : (r ≡ length text) ⊎ (get_or text r 0 ≡ 10)
 
 -- The labels that come of an open label and the lines behind it: in FASTA they are joined to it up to the next header; in a plain text
 -- each is a label of its own.

@@ -1,18 +1,6 @@
 // The lines of a text.
-ghost use Rattle.std.specs.Prelude.{◌≡◌, ◌≤◌, length};
+ghost use Rattle.std.specs.Prelude.{◌≡◌};
 ghost use Rattle.label_text.specs.Lines.{is_header, is_mixed, trimmed};
-ghost use Rattle.label_text.specs.Says.{EndsLine};
-
-// Where the line that begins at a place ends: at the next newline, or with the text.
-pub(crate) fn line_end(text: &[u8], at: usize) -> usize
-    requires { at ≤ length text.now }
-    ensures { EndsLine text.now at result }
-{
-    match text[at..].iter().position(|byte| *byte == b'\n') {
-        Some(size) => at + size,
-        None => text.len(),
-    }
-}
 
 // A line without the carriage return before its newline.
 pub(crate) fn trimmed(line: &[u8]) -> &[u8]

@@ -33,10 +33,8 @@ fn close(out: &mut [u8], open: Open) -> usize
     if size == 0 {
         return at;
     }
-    out[at] = b'L';
-    out[at + 1] = b'B';
-    out[at + 2] = (size % 256) as u8;
-    out[at + 3] = (size / 256 % 256) as u8;
+    out[at..at + 2].copy_from_slice(b"LB");
+    out[at + 2..at + 4].copy_from_slice(&(size as u16).to_le_bytes());
     at + 4 + size
 }
 
@@ -66,14 +64,14 @@ fn pack_line(line: &[u8], fasta: bool, out: &mut [u8], open: Open) -> Result<Ope
     requires { Room out.old open.at open.size × (fasta ≡ false → open.size ≡ 0) }
     ensures { Takes fasta line.now out.old open.at open.size result out.new }
 {
-    if fasta && lines::is_header(line) {
-        let at = close(out, open);
-        return Ok(Open { at, size: 0 });
+    if fasta {
+        if lines::is_header(line) {
+            let at = close(out, open);
+            return Ok(Open { at, size: 0 });
+        }
+        return add_letters(line, out, open);
     }
     let grown = add_letters(line, out, open)?;
-    if fasta {
-        return Ok(grown);
-    }
     let at = close(out, grown);
     Ok(Open { at, size: 0 })
 }
@@ -86,11 +84,8 @@ fn pack_lines(text: &[u8], k: u8, cutoff: u32, out: &mut [u8]) -> Result<usize, 
     put_head(k, cutoff, out);
     let fasta = lines::is_header(text);
     let mut open = Open { at: 7, size: 0 };
-    let mut i = 0;
-    while i <= text.len() {
-        let end = lines::line_end(text, i);
-        open = pack_line(lines::trimmed(&text[i..end]), fasta, out, open)?;
-        i = end + 1;
+    for line in text.split(|byte| *byte == b'\n') {
+        open = pack_line(lines::trimmed(line), fasta, out, open)?;
     }
     Ok(close(out, open))
 }

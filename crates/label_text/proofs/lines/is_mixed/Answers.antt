@@ -1,10 +1,7 @@
--- A text that begins with the byte is not mixed; another is where it has one. Assumes nothing.
 use mathlib.Core.Path.{sym, ◌∙◌}
-use Rattle.label_text.proofs.Marks.{mixed_not, mixed_where}
+use Rattle.label_text.proofs.Marks.{has_mark_any}
 use Rattle.label_text.proofs.lines.is_mixed.Goals as goal
 
-pub returns-then-is_header : goal.returns-then-is_header
-returns-then-is_header c = mixed_not c.args.text.now (sym c.is_header.ensures ∙ c.if-is_header.true)
-
-pub returns : goal.returns
-returns c = mixed_where c.args.text.now (sym c.is_header.ensures ∙ c.if-is_header.false) c.has_mark.ensures
+pub returns-then-not-is_header : goal.returns-then-not-is_header
+returns-then-not-is_header c =
+    rw (← c.if-not-is_header.ensures) (c.contains.ensures.value ∙ has_mark_any c.args.text.now)

@@ -1,39 +1,45 @@
+-- Each turn takes the next line. Assumes nothing.
+use mathlib.Core.Path.{sym}
 use native.Mathlib.Omega.{arith}
-use borrow.Author.Rules.{rules}
-use Rattle.label_text.proofs.Turns.{partly_none, partly_more, partly_large, partly_all}
+use lib.Dec.{eqb}
+use lib.ListN.{length}
+use Rattle.std.proofs.Common.{rules, tests}
+use Rattle.std.proofs.lemmas.List.{length_push}
+use Rattle.std.proofs.lemmas.Iterator.Splits.{YieldsList-from_slice_split}
+use Rattle.std.proofs.lemmas.Iterator.Consumers.{YieldsList-turn, YieldsList-end}
+use Rattle.std.proofs.lemmas.Result.{err_from_is_err_and}
+use Rattle.label_text.proofs.Breaks.{lines_none}
+use Rattle.label_text.proofs.Turns.{partly_none, partly_next, partly_more, partly_large, partly_all}
 use Rattle.label_text.proofs.packing.pack_lines.Goals as goal
 
-pub loop-i-init : goal.loop-i-init
-loop-i-init c =
+pub loop-line-init : goal.loop-line-init
+loop-line-init c =
     let a = c.args in
-    (search rules, partly_none a.k a.cutoff a.text.now _ a.out.now _ c.is_header-fasta.ensures c.requires c.put_head.ensures)
+    partly_none a.k a.cutoff a.text.now _ a.out.now _ c.is_header-fasta.ensures c.requires c.put_head.ensures
 
-pub pack_line-requires : goal.pack_line-requires
-pack_line-requires c =
-    let l = c.loop-i in
-    let e = c.line_end-end.ensures in
-    (c.trimmed_end-stop.ensures.0, omega (arith, e.within, c.trimmed_end-stop.ensures.1), l.invariant.1.room, l.invariant.1.plain)
-
-pub returns-in_default : goal.returns-in_default
-returns-in_default c =
-    let l = c.loop-i in
+pub returns-in_err-open : goal.returns-in_err-open
+returns-in_err-open c =
     let a = c.args in
-    partly_large a.k a.cutoff a.text.now _ l.out l.at l.size l.i l.invariant.1
-    c.line_end-end.result c.trimmed_end-stop.result c.line_end-end.ensures c.trimmed_end-stop.ensures.2
-    c.pack_line.result _ c.pack_line.ensures c.in_default.is
+    let l = c.loop-line in
+    let lines = YieldsList-from_slice_split _ (λ b. eqb b 10) a.text.now (cc) (cc) (cc) (λ x b q k. search (rules, tests)) in
+    let turn = YieldsList-turn lines l.yielded _ l.yielded_by _ _ c.in-Some.line c.in-Some.is c.next.ensures.steps in
+    let p = partly_next a.k a.cutoff a.text.now _ _ c.in-Some.line.now _ l.invariant turn.0 turn.1 c.trimmed.ensures in
+    let e = err_from_is_err_and c.from_residual.result c.from_residual.ensures.1 in
+    rw e.1 (partly_large _ _ _ _ p c.in_err-open.ensures)
 
-pub loop-i-preserved : goal.loop-i-preserved
-loop-i-preserved c =
-    let l = c.loop-i in
-    let a = c.args in (
-      omega arith,
-      partly_more a.k a.cutoff a.text.now _ l.out l.at l.size l.i l.invariant.1
-          c.line_end-end.result c.trimmed_end-stop.result c.line_end-end.ensures c.trimmed_end-stop.ensures.2
-          c.pack_line.result _ c.pack_line.ensures _ _ c.in-Open.is,
-    )
+pub loop-line-preserved : goal.loop-line-preserved
+loop-line-preserved c =
+    let a = c.args in
+    let l = c.loop-line in
+    let lines = YieldsList-from_slice_split _ (λ b. eqb b 10) a.text.now (cc) (cc) (cc) (λ x b q k. search (rules, tests)) in
+    let turn = YieldsList-turn lines l.yielded _ l.yielded_by _ _ c.in-Some.line c.in-Some.is c.next.ensures.steps in
+    let p = partly_next a.k a.cutoff a.text.now _ _ c.in-Some.line.now _ l.invariant turn.0 turn.1 c.trimmed.ensures in
+    rw (length_push l.yielded c.in-Some.line) (partly_more _ _ _ _ p c.in_ok-open.ensures)
 
 pub returns : goal.returns
 returns c =
-    let l = c.loop-i in
     let a = c.args in
-    partly_all a.k a.cutoff a.text.now _ _ _ _ _ l.invariant.1 (omega arith) _ _ c.close.ensures
+    let l = c.loop-line in
+    let lines = YieldsList-from_slice_split _ (λ b. eqb b 10) a.text.now (cc) (cc) (cc) (λ x b q k. search (rules, tests)) in
+    let end = YieldsList-end lines l.yielded _ l.yielded_by _ _ c.in-None.is c.next.ensures.steps in
+    partly_all a.k a.cutoff a.text.now _ (rw (lines_none a.text.now _ end.1) at l.invariant) c.close.ensures
