@@ -30,7 +30,7 @@ put_four at size out mark count h m n =
     let size_is : at + 4 + size ≡ length both + size =
     omega (arith, length-append (take at out ++ mark) count, length-append (take at out) mark, length-take-le at out (omega arith)) in
     rw (k, j, front, behind, ← append_assoc (take at out ++ mark) count (drop (at + 4) out), size_is, take-append-add)
-    (rw (append_assoc, append_assoc))
+    (simp append_assoc)
 
 -- A part is the end of a beginning.
 part_drop : (l : List ℕ) (k m : ℕ) → k ≤ length l → part l k m ≡ drop k (take (k + m) l)

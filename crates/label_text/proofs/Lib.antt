@@ -6,3 +6,4 @@ pub mod Growing
 pub mod Steps
 pub mod Turns
 pub mod Says
+pub mod Roundtrip

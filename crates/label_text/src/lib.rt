@@ -7,9 +7,8 @@ ghost use Rattle.label_text.specs.declared.PackError.TheVariants as pack;
 mod lines;
 mod packing;
 
-pub use packing::pack;
-
 use dna::NoRoom;
+pub use packing::pack;
 
 // That the text has a `>` and does not begin with one, so that it is neither FASTA nor labels, one a line; that the
 // file would be over 16,384 bytes; that the slice is too short for it.

@@ -48,10 +48,10 @@ fn add_letters(line: &[u8], out: &mut [u8], open: Open) -> Result<Open, TooLarge
         return Ok(open);
     }
     let start = at + 4 + size;
-    if 16384 < start + line.len() {
+    let end = start + line.len();
+    if 16384 < end {
         return Err(TooLarge);
     }
-    let end = start + line.len();
     out[start..end].copy_from_slice(line);
     Ok(Open {
         at,

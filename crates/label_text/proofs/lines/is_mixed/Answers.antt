@@ -1,4 +1,4 @@
-use mathlib.Core.Path.{sym, ◌∙◌}
+use mathlib.Core.Path.{◌∙◌}
 use Rattle.label_text.proofs.Marks.{has_mark_any}
 use Rattle.label_text.proofs.lines.is_mixed.Goals as goal
 
