@@ -4,11 +4,12 @@ use mathlib.Core.Path.{◌≡◌, refl, sym, ap, ◌∙◌}
 use mathlib.Core.Bool.{true, false, false≢true}
 use mathlib.Core.List.{List, []}
 use mathlib.Core.Logic.{◌⊎◌, inl, inr, ⊎_elim}
-use Prim.Native.Nat.{ℕ, zero, suc, ◌+◌, ◌^◌, ◌≤◌, ◌<◌}
+use Prim.Native.Nat.{ℕ, zero, suc, ◌^◌, ◌≤◌, ◌<◌}
 use native.Mathlib.Omega.{arith}
 use borrow.Author.Tests.{lt-ltb, le-ltb}
 use lib.Dec.{ltb}
 use lib.ListN.{length, get_or, drop, get_or-append}
+use Rattle.std.specs.Prelude.{Result, Ok}
 use Rattle.lemmas.proofs.Numbers.{lt_or_ge, true_or_false}
 use Rattle.lemmas.proofs.Tests.{choose}
 use Rattle.dna.specs.Text.{over}
@@ -17,21 +18,17 @@ use Rattle.dna.proofs.Answers.{ungiven}
 use Rattle.colours.specs.Packed.{in_process, coordinate_in}
 use Rattle.colours.specs.Runs.{offset_at, sound_runs, Sound, Last, colors_from, check_call, color_call, colors_call}
 use Rattle.colours.specs.Says.{colors_answer, WritesColors}
-use Rattle.colours.specs.declared.ColorsAnswer.{ColorsAnswer}
-use Rattle.colours.specs.declared.ColorsAnswer.TheVariants.{Written}
+use Rattle.colours.specs.declared.ColorError.{ColorError}
 use Rattle.colours.proofs.Roundtrip.{run_free}
 use Rattle.colours.proofs.Listing.{sound_says, says_sound, last_found}
-use Rattle.colours.proofs.Searching.{Between, between_all, between_up, between_down, between_last}
 use Rattle.colours.proofs.Painting.{length_colors, colors_at}
 
 -- The check passes a list that keeps the four rules; any other is refused with 23, whatever is asked of it.
 module _ (kmers : ℕ) (runs : List ℕ) where
   pub sound_passes : Sound kmers runs → check_call kmers runs ≡ gives tt
-  unfolding check_call
   sound_passes s = rw (says_sound kmers runs s)
 
   pub passes_sound : check_call kmers runs ≡ gives tt → Sound kmers runs
-  unfolding check_call
   passes_sound h =
       ⊎_elim (sound_says kmers runs) (λ f. ungiven tt 23 [] (sym (rw f at h))) (true_or_false (sound_runs kmers runs))
 
@@ -41,16 +38,13 @@ module _ (kmers : ℕ) (runs : List ℕ) where
         ⊎_elim (λ t. absurd (broken (sound_says kmers runs t))) (λ f. f) (true_or_false (sound_runs kmers runs))
 
     pub broken_check : check_call kmers runs ≡ refuses 23 []
-    unfolding check_call
     broken_check = rw fails
 
     pub broken_color : (vertex : ℕ) → color_call kmers runs vertex ≡ refuses 23 []
-    unfolding color_call
     broken_color vertex = rw fails
 
     pub broken_colors : (slice : List ℕ)
         → colors_call kmers runs slice ≡ record { answer = refuses 23 []; slice = slice }
-    unfolding colors_call
     broken_colors slice = rw fails
 
 -- No two runs are the last one at or before a vertex.
@@ -63,28 +57,29 @@ last_one {vertex} {runs} {i} {j} p q =
 module _ {kmers : ℕ} {runs : List ℕ} (s : Sound kmers runs) (vertex : ℕ) where
   -- One is.
   pub last_there : (i : ℕ) × Last vertex runs i
-  last_there = go (length runs) (between_all kmers vertex runs s) (omega arith)
+  last_there = go (length runs) (omega arith) (λ j h k. absurd (omega arith))
     where
-      go : (n : ℕ) {lo hi : ℕ} → Between vertex runs lo hi → hi ≤ lo + n → (i : ℕ) × Last vertex runs i
-      go zero b h = absurd (omega (arith, b.apart))
-      go (suc n) {lo} {hi} b h =
-          let on = lo + 1 in
+      -- The runs from n on are behind the vertex.
+      go : (n : ℕ) → n ≤ length runs → ((j : ℕ) → n ≤ j → j < length runs → vertex < offset_at runs j)
+          → (i : ℕ) × Last vertex runs i
+      go zero h later = absurd (omega (arith, s.first, later 0 (omega arith) s.some))
+      go (suc n) h later =
           ⊎_elim
-          (λ l. ⊎_elim (λ m. go n (between_down kmers vertex runs s b on (omega arith) l m) (omega arith))
-          (λ m. go n (between_up kmers vertex runs s b on (omega arith) l m) (omega arith))
-          (lt_or_ge vertex (offset_at runs on)))
-          (λ l. (lo, between_last b l)) (lt_or_ge on hi)
+          (λ (l : vertex < offset_at runs n).
+          go n (omega arith)
+          (λ j k m.
+          ⊎_elim (λ (q : n < j). later j q m) (λ (q : j ≤ n). let e : j ≡ n = omega arith in rw e l) (lt_or_ge n j)))
+          (λ (l : offset_at runs n ≤ vertex). (n, record { within = omega arith; reached = l; later = later }))
+          (lt_or_ge vertex (offset_at runs n))
 
   -- Its colour is answered, of a vertex of the label;
   pub color_is : vertex < kmers → (i : ℕ) → Last vertex runs i
       → color_call kmers runs vertex ≡ gives (coordinate_in (get_or runs i 0))
-  unfolding color_call
   color_is h i l =
       rw (says_sound kmers runs s, lt-ltb vertex kmers h) (ap gives (last_found vertex runs 0 i l))
 
   -- of another the refusal is 24.
   pub past_is : kmers ≤ vertex → color_call kmers runs vertex ≡ refuses 24 []
-  unfolding color_call
   past_is h = rw (says_sound kmers runs s, le-ltb vertex kmers h)
 
 -- No colour that is answered is in process.
@@ -117,7 +112,6 @@ module _ (kmers : ℕ) (runs slice : List ℕ) where
   Good m f = gives m ≡ f.answer → Painted m f
 
   painted : (m : ℕ) → Good m (colors_call kmers runs slice)
-  unfolding colors_call
   painted m =
       choose (Good m) (sound_runs kmers runs)
       (λ s. choose (Good m) (ltb (length slice) (length (colors_from runs 0 kmers)))
@@ -126,8 +120,8 @@ module _ (kmers : ℕ) (runs slice : List ℕ) where
       record { sound = s; number = e ∙ length_colors runs 0 kmers; slice_after = refl }))
       (λ s h. ungiven m _ _ h)
 
-  module _ {r : ColorsAnswer} {out : List ℕ} (w : WritesColors r out (colors_call kmers runs slice))
-      {m : ℕ} (e : r ≡ Written m) where
+  module _ {r : Result ℕ ColorError} {out : List ℕ} (w : WritesColors r out (colors_call kmers runs slice))
+      {m : ℕ} (e : r ≡ Ok m) where
     whole : Painted m (colors_call kmers runs slice)
     whole = painted m (ap colors_answer (sym e) ∙ w.answer)
 
@@ -138,7 +132,6 @@ module _ (kmers : ℕ) (runs slice : List ℕ) where
     written_number = whole.number
 
     pub written_each : (vertex : ℕ) → vertex < kmers → color_call kmers runs vertex ≡ gives (get_or out vertex 0)
-    unfolding color_call
     written_each vertex h =
         let all = colors_from runs 0 kmers in
         let n : vertex < length all = omega (arith, length_colors runs 0 kmers) in

@@ -1,16 +1,17 @@
 -- A run list, run by run: what it is to keep the rules, and the last run at or before a vertex. Assumes nothing.
-use mathlib.Core.Path.{◌≡◌, refl, ◌∙◌}
+use mathlib.Core.Path.{◌≡◌, refl, ap, ◌∙◌}
 use mathlib.Core.Bool.{Bool, true, false, false≢true, ◌&&◌}
 use mathlib.Core.List.{List, [], ◌∷◌}
 use mathlib.Core.Logic.{⊎_elim}
-use Prim.Native.Nat.{ℕ, zero, suc, ◌+◌, ◌≤◌, ◌<◌}
+use Prim.Native.Nat.{ℕ, zero, suc, ◌+◌, ◌-◌, ◌≤◌, ◌<◌}
 use native.Mathlib.Nat.{le_of_suc-le-suc, not-suc-le-zero}
 use native.Mathlib.Numerals.{add-one}
 use native.Mathlib.Omega.{arith}
 use borrow.Author.Tests.{ltb-true, eqb-true, lt-ltb, le-ltb, le-leb, lt-leb, eq-eqb}
 use lib.Dec.{ltb, eqb}
-use lib.ListN.{length, get_or, drop}
-use lib.Seq.{drop-cons}
+use lib.ListN.{length, get_or, take, drop, length-drop}
+use lib.Seq.{drop-cons, get_or-drop}
+use Rattle.std.proofs.lemmas.List.{take_rest}
 use Rattle.lemmas.proofs.Numbers.{lt_or_ge}
 use Rattle.lemmas.proofs.Tests.{both}
 use Rattle.colours.specs.Packed.{offset_in, coordinate_in}
@@ -19,6 +20,19 @@ use Rattle.colours.specs.Runs.{offset_at, rises_from, sound_runs, Sound, Last, l
 no : (a b : Bool) → a && false && b ≡ false
 no true b = refl
 no false b = refl
+
+-- The runs after the first, as a loop over them has them.
+module _ (runs : List ℕ) where
+  abbrev pub rest : List ℕ
+  rest = take (length runs - 1) (drop 1 runs)
+
+  pub rest_length : length rest ≡ length runs - 1
+  rest_length = ap length (take_rest runs 1) ∙ length-drop 1 runs
+
+  pub rest_at : (i : ℕ) → get_or rest i 0 ≡ get_or runs (i + 1) 0
+  rest_at i =
+      let e : 1 + i ≡ i + 1 = omega arith in
+      ap (λ l. get_or l i 0) (take_rest runs 1) ∙ get_or-drop 1 runs i 0 ∙ rw e
 
 module _ (kmers : ℕ) where
   -- No run, the first run, and one run more.
@@ -34,10 +48,10 @@ module _ (kmers : ℕ) where
   sound_first (r ∷ runs) h = refl
 
   module _ (runs : List ℕ) (offset i start : ℕ) (here : i < length runs) (e : start ≡ offset_at runs i) where
-    abbrev rest : Bool
-    rest = rises_from start kmers (drop (i + 1) runs)
+    abbrev behind : Bool
+    behind = rises_from start kmers (drop (i + 1) runs)
 
-    rises_next : rises_from offset kmers (drop i runs) ≡ ltb offset start && ltb start kmers && rest
+    rises_next : rises_from offset kmers (drop i runs) ≡ ltb offset start && ltb start kmers && behind
     unfolding rises_from
     rises_next = rw (drop-cons runs i 0 here, add-one i, e)
 
@@ -45,9 +59,9 @@ module _ (kmers : ℕ) where
     rises_not h = rises_next ∙ rw (le-ltb offset start h)
 
     pub rises_past : kmers ≤ start → rises_from offset kmers (drop i runs) ≡ false
-    rises_past h = rises_next ∙ rw (le-ltb start kmers h) (no (ltb offset start) rest)
+    rises_past h = rises_next ∙ rw (le-ltb start kmers h) (no (ltb offset start) behind)
 
-    pub rises_on : offset < start → start < kmers → rises_from offset kmers (drop i runs) ≡ rest
+    pub rises_on : offset < start → start < kmers → rises_from offset kmers (drop i runs) ≡ behind
     rises_on h k = rises_next ∙ rw (lt-ltb offset start h, lt-ltb start kmers k)
 
   pub rises_end : (runs : List ℕ) (offset i : ℕ) → length runs ≤ i → rises_from offset kmers (drop i runs) ≡ true
@@ -152,7 +166,8 @@ module _ (vertex : ℕ) where
       rw (lt-leb (offset_in r) vertex (h 0 (omega arith))) (none_reach runs c (λ j l. h (suc j) (omega arith)))
 
   -- The colour found is that of the last run at or before the vertex.
-  pub last_found : (runs : List ℕ) (c i : ℕ) → Last vertex runs i → last_by vertex c runs ≡ coordinate_in (get_or runs i 0)
+  pub last_found : (runs : List ℕ) (c i : ℕ) → Last vertex runs i
+      → last_by vertex c runs ≡ coordinate_in (get_or runs i 0)
   unfolding last_by
   last_found [] c i l = absurd (not-suc-le-zero l.within)
   last_found (r ∷ runs) c zero l =

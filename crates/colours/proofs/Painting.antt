@@ -138,7 +138,8 @@ module _ {kmers : ℕ} {runs out₀ out : List ℕ} {color from i : ℕ} (p : Pa
         behind j l k = omega (arith, e, ascend_on p.sound i j l k)
 
   -- The last run goes up to the label's end.
-  pub painting_all : length runs ≤ i → (part : List ℕ) → part ≡ replicate (length (mid_of from (kmers - from) out)) color
+  pub painting_all : length runs ≤ i → (part : List ℕ)
+      → part ≡ replicate (length (mid_of from (kmers - from) out)) color
       → put_mid from (kmers - from) out part ≡ over all out₀
   painting_all h part q =
       let b = painted_to kmers (omega (arith, painting_below)) (omega arith) (λ j l k. absurd (omega arith)) part q in

@@ -16,7 +16,6 @@ use Rattle.colours.proofs.Packing.{answered, parts_both, parts_each}
 -- What a coordinate is packed from is in range, and so is the coordinate.
 module _ (worker index : ℕ) {coordinate : ℕ} (h : discovered_call worker index ≡ gives coordinate) where
   made : (worker < 2 ^ 8) × (index < 2 ^ 32) × (coordinate_of worker index ≡ coordinate)
-  unfolding discovered_call
   made =
       let r = answered (ltb worker (2 ^ 8) && ltb index (2 ^ 32)) h in
       let b = both (ltb worker (2 ^ 8)) (ltb index (2 ^ 32)) r.0 in
@@ -27,15 +26,14 @@ module _ (worker index : ℕ) {coordinate : ℕ} (h : discovered_call worker ind
 
   -- It has the parts that it was packed from,
   pub parts_of : (worker_call coordinate ≡ gives worker) × (index_call coordinate ≡ gives index)
-  unfolding worker_call index_call
   parts_of =
       rw (lt-ltb coordinate (2 ^ 40) made_short, sym made.2)
       (ap gives (low index 8 made.0), ap gives (high index 8 made.0))
 
 -- and is what its parts pack to.
-pub of_parts : {worker index coordinate : ℕ} → worker_call coordinate ≡ gives worker → index_call coordinate ≡ gives index
+pub of_parts : {worker index coordinate : ℕ}
+    → worker_call coordinate ≡ gives worker → index_call coordinate ≡ gives index
     → discovered_call worker index ≡ gives coordinate
-unfolding discovered_call worker_call index_call
 of_parts {worker} {index} {coordinate} h k =
     let r = answered (ltb coordinate (2 ^ 40)) h in
     let s = answered (ltb coordinate (2 ^ 40)) k in
@@ -58,13 +56,11 @@ of_both {coordinate = coordinate} h = let p = parts_each coordinate h in of_part
 
 -- The 40 bits of a coordinate make it again, and it has those that it was made from.
 pub u40_back : {value coordinate : ℕ} → u40_call value ≡ gives coordinate → u40_call coordinate ≡ gives value
-unfolding u40_call
 u40_back {value} h = let r = answered (ltb value (2 ^ 40)) h in rw (sym r.1, r.0)
 
 -- A run has the offset and the coordinate that it was packed from,
 pub run_parts : {offset coordinate run : ℕ} → run_call offset coordinate ≡ gives run
     → (offset_in run ≡ offset) × (coordinate_in run ≡ coordinate)
-unfolding run_call
 run_parts {offset} {coordinate} h =
     let r = answered (ltb offset (2 ^ 24) && ltb coordinate (2 ^ 40)) h in
     let o = ltb-true offset (2 ^ 24) (both (ltb offset (2 ^ 24)) (ltb coordinate (2 ^ 40)) r.0).0 in
@@ -72,7 +68,6 @@ run_parts {offset} {coordinate} h =
 
 -- and every word is the run that its offset and its coordinate pack to.
 pub run_of_parts : (run : ℕ) → run < 2 ^ 64 → run_call (offset_in run) (coordinate_in run) ≡ gives run
-unfolding run_call
 run_of_parts run h =
     let o : run % 2 ^ 24 < 2 ^ 24 = omega arith in
     let c : run / 2 ^ 24 < 2 ^ 40 = shr_lt {n = run} 40 24 h in
@@ -85,11 +80,9 @@ module _ (coordinate : ℕ) (p : in_process coordinate ≡ true) where
 
   pub in_process_none : (u40_call coordinate ≡ refuses 22 []) × (worker_call coordinate ≡ refuses 22 [])
       × (index_call coordinate ≡ refuses 22 [])
-  unfolding u40_call worker_call index_call
   in_process_none = rw (le-ltb coordinate (2 ^ 40) long) (refl, refl, refl)
 
   pub never_packed : (offset : ℕ) → run_call offset coordinate ≡ refuses 22 []
-  unfolding run_call
   never_packed offset =
       rw (le-ltb coordinate (2 ^ 40) long) (go (ltb offset (2 ^ 24)) (coordinate * 2 ^ 24 + offset))
     where
@@ -106,7 +99,6 @@ pub made_free : (worker index : ℕ) {coordinate : ℕ} → discovered_call work
 made_free worker index {coordinate} h = short_free coordinate (made_short worker index h)
 
 pub u40_free : (value : ℕ) {coordinate : ℕ} → u40_call value ≡ gives coordinate → in_process coordinate ≡ false
-unfolding u40_call
 u40_free value {coordinate} h =
     let r = answered (ltb value (2 ^ 40)) h in
     short_free coordinate (rw r.1 at (ltb-true value (2 ^ 40) r.0))

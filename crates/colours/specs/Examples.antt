@@ -2,7 +2,7 @@
 use Rattle.std.specs.Prelude.{ℕ, ◌≡◌, refl, List, [], ◌∷◌, map}
 use Rattle.dna.specs.Answer.{gives, refuses}
 use Rattle.colours.specs.Packed.{discovered_call, u40_call, worker_call, index_call, parts_call}
-use Rattle.colours.specs.Packed.{run_of, run_call, open_packed}
+use Rattle.colours.specs.Packed.{run_of, run_call}
 use Rattle.colours.specs.Runs.{check_call, color_call, colors_call, open_runs}
 
 -- Worker 7 and index 3 are the coordinate 775; the largest parts fill 40 bits, and one more of either is refused.
@@ -14,7 +14,6 @@ pub coordinates_are : (
     ≡ gives 775 ∷ gives 7 ∷ gives 3
     ∷ gives 1099511627775 ∷ gives 255 ∷ gives 4294967295
     ∷ refuses 22 [] ∷ refuses 22 [] ∷ []
-unfolding open_packed
 coordinates_are = refl
 
 -- A coordinate with a 41st bit, and one in process, is refused its 40 bits and its parts.
@@ -23,11 +22,9 @@ pub long_are : (
     ∷ u40_call 9223372036854775808 ∷ worker_call 9223372036854775815 ∷ index_call 9223372036854775815 ∷ []
     )
     ≡ gives 1099511627775 ∷ map (refuses 22) ([] ∷ [] ∷ [] ∷ [] ∷ [] ∷ [] ∷ [])
-unfolding open_packed
 long_are = refl
 
 pub parts_are : parts_call 775 ∷ parts_call 1099511627776 ∷ [] ≡ gives (7, 3) ∷ refuses 22 [] ∷ []
-unfolding open_packed
 parts_are = refl
 
 -- A coordinate at an offset; the last offset; an offset that needs a 25th bit; a coordinate that needs a 41st, and one
@@ -37,7 +34,6 @@ pub packed_are : (
     ∷ run_call 16777216 0 ∷ run_call 0 1099511627776 ∷ run_call 0 9223372036854775808 ∷ []
     )
     ≡ gives 13002342405 ∷ gives 18446744073709551615 ∷ refuses 22 [] ∷ refuses 22 [] ∷ refuses 22 [] ∷ []
-unfolding open_packed
 packed_are = refl
 
 -- Three runs of a label with ten k-mers: colour 4 from vertex 0, 9 from vertex 3, 4 again from vertex 7.
@@ -53,7 +49,8 @@ colors_are = refl
 -- a list that keeps the rules.
 pub broken_are : (
     check_call 0 (run_of 0 4 ∷ []) ∷ check_call 3 [] ∷ check_call 3 (run_of 1 4 ∷ [])
-    ∷ check_call 3 (run_of 0 4 ∷ run_of 2 9 ∷ run_of 2 4 ∷ []) ∷ check_call 3 (run_of 0 4 ∷ run_of 2 9 ∷ run_of 1 4 ∷ [])
+    ∷ check_call 3 (run_of 0 4 ∷ run_of 2 9 ∷ run_of 2 4 ∷ [])
+    ∷ check_call 3 (run_of 0 4 ∷ run_of 2 9 ∷ run_of 1 4 ∷ [])
     ∷ check_call 3 (run_of 0 4 ∷ run_of 3 9 ∷ []) ∷ check_call 3 (run_of 0 4 ∷ run_of 2 9 ∷ []) ∷ []
     )
     ≡ refuses 23 [] ∷ refuses 23 [] ∷ refuses 23 [] ∷ refuses 23 [] ∷ refuses 23 [] ∷ refuses 23 [] ∷ gives tt ∷ []
@@ -78,7 +75,6 @@ written_are = refl
 -- The README's label of five k-mers: worker 7's index 3 from vertex 0 on, worker 0's index 1 from vertex 2 on.
 pub five_packed : discovered_call 7 3 ∷ discovered_call 0 1 ∷ run_call 0 775 ∷ run_call 2 256 ∷ []
     ≡ gives 775 ∷ gives 256 ∷ gives 13002342400 ∷ gives 4294967298 ∷ []
-unfolding open_packed
 five_packed = refl
 
 pub five_colored : colors_call 5 (13002342400 ∷ 4294967298 ∷ []) (0 ∷ 0 ∷ 0 ∷ 0 ∷ 0 ∷ [])

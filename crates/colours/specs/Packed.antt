@@ -31,29 +31,24 @@ abbrev pub in_range : {A : Type 0} → Bool → Answer A → Answer A
 in_range fits answer = cond fits answer (refuses 22 [])
 
 -- A coordinate packed from its parts.
-unfoldable pub discovered_call : ℕ → ℕ → Answer ℕ
+abbrev pub discovered_call : ℕ → ℕ → Answer ℕ
 discovered_call worker index =
     in_range (ltb worker (2 ^ 8) && ltb index (2 ^ 32)) (gives (coordinate_of worker index))
 
 -- What is asked of a coordinate: its 40 bits, from which it is also made, and its parts, one by one and both.
-unfoldable pub u40_call : ℕ → Answer ℕ
+abbrev pub u40_call : ℕ → Answer ℕ
 u40_call coordinate = in_range (ltb coordinate (2 ^ 40)) (gives coordinate)
 
-unfoldable pub worker_call : ℕ → Answer ℕ
+abbrev pub worker_call : ℕ → Answer ℕ
 worker_call coordinate = in_range (ltb coordinate (2 ^ 40)) (gives (worker_in coordinate))
 
-unfoldable pub index_call : ℕ → Answer ℕ
+abbrev pub index_call : ℕ → Answer ℕ
 index_call coordinate = in_range (ltb coordinate (2 ^ 40)) (gives (index_in coordinate))
 
-unfoldable pub parts_call : ℕ → Answer (ℕ × ℕ)
+abbrev pub parts_call : ℕ → Answer (ℕ × ℕ)
 parts_call coordinate = in_range (ltb coordinate (2 ^ 40)) (gives (worker_in coordinate, index_in coordinate))
 
 -- A run packed from an offset and a coordinate.
-unfoldable pub run_call : ℕ → ℕ → Answer ℕ
+abbrev pub run_call : ℕ → ℕ → Answer ℕ
 run_call offset coordinate =
     in_range (ltb offset (2 ^ 24) && ltb coordinate (2 ^ 40)) (gives (run_of offset coordinate))
-
--- Opens this file's definitions to a proof that computes.
-unfoldable pub open_packed : Unit {0}
-unfolding discovered_call u40_call worker_call index_call parts_call run_call
-open_packed = tt

@@ -1,5 +1,6 @@
 -- The run list of a label, and the colours of its vertices. Assumes nothing.
-use Rattle.std.specs.Prelude.{ℕ, zero, suc, ◌≤◌, ◌<◌, ◌≡◌, Bool, true, false, cond, ◌&&◌, List, [], ◌∷◌, ltb, leb, eqb, length, get_or}
+use Rattle.std.specs.Prelude.{ℕ, zero, suc, ◌≤◌, ◌<◌, ◌≡◌, Bool, true, false, cond, ◌&&◌}
+use Rattle.std.specs.Prelude.{List, [], ◌∷◌, ltb, leb, eqb, length, get_or}
 use Rattle.dna.specs.Answer.{Answer, gives, refuses, Filled, fill}
 use Rattle.colours.specs.Packed.{offset_in, coordinate_in}
 
@@ -43,22 +44,22 @@ colors_from runs vertex zero = []
 colors_from runs vertex (suc n) = last_by vertex 0 runs ∷ colors_from runs (suc vertex) n
 
 -- The refusal 23 of a run list that breaks the rules.
-unfoldable pub check_call : ℕ → List ℕ → Answer (Unit {0})
+abbrev pub check_call : ℕ → List ℕ → Answer (Unit {0})
 check_call kmers runs = cond (sound_runs kmers runs) (gives tt) (refuses 23 [])
 
 -- The colour at a vertex: the refusals 23 and 24.
-unfoldable pub color_call : ℕ → List ℕ → ℕ → Answer ℕ
+abbrev pub color_call : ℕ → List ℕ → ℕ → Answer ℕ
 color_call kmers runs vertex =
     cond (sound_runs kmers runs) (cond (ltb vertex kmers) (gives (last_by vertex 0 runs)) (refuses 24 []))
     (refuses 23 [])
 
 -- The colours at all vertices, written into a slice: the refusals 23 and 9.
-unfoldable pub colors_call : ℕ → List ℕ → List ℕ → Filled
+abbrev pub colors_call : ℕ → List ℕ → List ℕ → Filled
 colors_call kmers runs slice =
     cond (sound_runs kmers runs) (fill 9 (colors_from runs 0 kmers) slice)
     (record { answer = refuses 23 []; slice = slice })
 
 -- Opens this file's definitions to a proof that computes.
 unfoldable pub open_runs : Unit {0}
-unfolding rises_from sound_runs last_by colors_from check_call color_call colors_call
+unfolding rises_from sound_runs last_by colors_from
 open_runs = tt

@@ -1,5 +1,5 @@
 // The run list of a label: words that each hold a run.
-ghost use Rattle.std.specs.Prelude.{◌≡◌, true, ◌≤◌, length, replicate};
+ghost use Rattle.std.specs.Prelude.{◌≡◌, true, ◌≤◌, length};
 ghost use Rattle.dna.specs.Text.{over};
 ghost use Rattle.colours.specs.Packed.{offset_in, coordinate_in};
 ghost use Rattle.colours.specs.Runs.{sound_runs, last_by, colors_from, check_call, color_call, colors_call};
@@ -25,12 +25,15 @@ fn color_of(run: u64) -> u64
 fn are_sound(runs: &[u64], kmers: usize) -> bool
     ensures { result ≡ sound_runs kmers runs.now }
 {
-    if runs.is_empty() || start_of(runs[0]) != 0 || kmers == 0 {
+    let [first, rest @ ..] = runs else {
+        return false;
+    };
+    if start_of(*first) != 0 || kmers == 0 {
         return false;
     }
     let mut last = 0;
-    for run in &runs[1..] {
-        let start = start_of(*run);
+    for &run in rest {
+        let start = start_of(run);
         if start <= last || kmers <= start {
             return false;
         }
@@ -44,17 +47,8 @@ fn last_by(runs: &[u64], kmers: usize, vertex: usize) -> ColorCoordinate
     requires { sound_runs kmers runs.now ≡ true }
     ensures { result.0 ≡ last_by vertex 0 runs.now }
 {
-    let mut lo = 0;
-    let mut hi = runs.len();
-    while 1 < hi - lo {
-        let mid = lo + (hi - lo) / 2;
-        if start_of(runs[mid]) <= vertex {
-            lo = mid;
-        } else {
-            hi = mid;
-        }
-    }
-    UnitigColor(runs[lo]).coordinate()
+    let behind = runs.partition_point(|&run| start_of(run) <= vertex);
+    UnitigColor(runs[behind - 1]).coordinate()
 }
 
 // The colours at all vertices, run by run: each up to where the next begins, the last up to the label's end.
@@ -64,10 +58,10 @@ fn paint_runs(runs: &[u64], kmers: usize, out: &mut [u64])
 {
     let mut color = color_of(runs[0]);
     let mut from = 0;
-    for run in &runs[1..] {
-        let to = start_of(*run);
+    for &run in &runs[1..] {
+        let to = start_of(run);
         out[from..to].fill(color);
-        color = color_of(*run);
+        color = color_of(run);
         from = to;
     }
     out[from..kmers].fill(color);

@@ -1,36 +1,34 @@
+use Prim.Native.Nat.{◌+◌, ◌<◌, ◌≤◌}
+use mathlib.Core.Path.{ap, ◌∙◌}
 use native.Mathlib.Omega.{arith}
-use Rattle.colours.proofs.Listing.{sound_says}
-use Rattle.colours.proofs.Painting.{painting_first, painting_below, painting_next}
-use Rattle.colours.proofs.Painting.{painting_more, painting_all}
+use lib.ListN.{length}
+use Rattle.colours.specs.Packed.{offset_in, coordinate_in}
+use Rattle.colours.proofs.Listing.{rest_length, rest_at, sound_says}
+use Rattle.colours.proofs.Painting.{painting_first, painting_more, painting_all}
 use Rattle.colours.proofs.list.paint_runs.Goals as goal
 
 pub bounds-runs-0 : goal.bounds-runs-0
 bounds-runs-0 c = (sound_says _ _ c.requires.0).some
 
-pub loop-i-init : goal.loop-i-init
-loop-i-init c =
-    let p = c.requires in
-    painting_first (sound_says _ _ p.0) p.1 _ c.color_of-color.ensures
+pub slice_bounds-run-items-count : goal.slice_bounds-run-items-count
+slice_bounds-run-items-count c = (sound_says _ _ c.requires.0).some
 
-pub slice_bounds-paint-count : goal.slice_bounds-paint-count
-slice_bounds-paint-count c = omega (arith, (painting_next c.loop-i.invariant c.loop-i-test.true).0, c.start_of-to.ensures)
+pub slice_bounds-run-items-start : goal.slice_bounds-run-items-start
+slice_bounds-run-items-start c = (sound_says _ _ c.requires.0).some
 
-pub slice_bounds-paint-end : goal.slice_bounds-paint-end
-slice_bounds-paint-end c =
-    let inv = c.loop-i.invariant in
-    omega (arith, (painting_next inv c.loop-i-test.true).1, c.start_of-to.ensures, inv.room, inv.long)
+pub loop-run-init : goal.loop-run-init
+loop-run-init c = painting_first (sound_says _ _ c.requires.0) c.requires.1 _ c.color_of-color.ensures
 
-pub loop-i-preserved : goal.loop-i-preserved
-loop-i-preserved c =
-    painting_more c.loop-i.invariant c.loop-i-test.true _ c.start_of-to.ensures _ c.paint.ensures
-    _ c.color_of-color-in-loop-i.ensures
-
-pub slice_bounds-paint-count-2 : goal.slice_bounds-paint-count-2
-slice_bounds-paint-count-2 c = omega (arith, painting_below c.loop-i.invariant)
-
-pub slice_bounds-paint-end-2 : goal.slice_bounds-paint-end-2
-slice_bounds-paint-end-2 c =
-    let inv = c.loop-i.invariant in omega (arith, inv.room, inv.long)
+pub loop-run-preserved : goal.loop-run-preserved
+loop-run-preserved c =
+    let runs = c.args.runs.now in
+    let i = c.loop-run.run-index in
+    let here : i + 1 < length runs = omega (arith, rest_length runs) in
+    painting_more c.loop-run.invariant here _ (c.start_of-to.ensures ∙ ap offset_in (rest_at runs i))
+    _ (c.fill.ensures.after (λ _ h. h)) _ (c.color_of-color-in-loop-run.ensures ∙ ap coordinate_in (rest_at runs i))
 
 pub returns : goal.returns
-returns c = painting_all c.loop-i.invariant c.loop-i-test.false _ c.paint-2.ensures
+returns c =
+    let runs = c.args.runs.now in
+    let end : length runs ≤ c.loop-run.run-index + 1 = omega (arith, rest_length runs) in
+    painting_all c.loop-run.invariant end _ (c.fill-2.ensures.after (λ _ h. h))
