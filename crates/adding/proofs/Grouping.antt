@@ -21,14 +21,9 @@ use Rattle.adding.specs.Says.{Rowed, Listed}
 use Rattle.adding.proofs.Rowing.{put_key, put_long, put_other, put_key_lem, rows_next}
 use Rattle.adding.proofs.Vertices.{grouped_same, grouped_new}
 
--- There is a last key only among some.
-pub last_some : (u : ℕ) (b : Bool) {r : Bool} → r ≡ (ltb 0 u && b) → r ≡ true → 0 < u
-last_some u b e t = ltb-true 0 u (both (ltb 0 u) b (sym e ∙ t)).0
-
 -- After t rows; the last vertex is of the last row.
 pub record Grouping (κ : Kind) (q : ℕ) (notes places offsets keys₀ places₀ counts₀ : List ℕ) (t u : ℕ) (keys new-places counts : List ℕ) :
     Type 0 where
-  pub upto : t ≤ q
   pub few : u ≤ t
   pub long_keys : length keys ≡ length keys₀
   pub long_places : length new-places ≡ length places₀
@@ -42,7 +37,6 @@ module _ {κ : Kind} {q : ℕ} {notes places offsets keys₀ places₀ counts₀
   pub grouping_none : Grouping κ q notes places offsets keys₀ places₀ counts₀ 0 0 keys₀ places₀ counts₀
   unfolding keys_of rows has_key
   grouping_none = record {
-    upto = omega arith;
     few = omega arith;
     long_keys = refl;
     long_places = refl;
@@ -75,7 +69,6 @@ module _ {κ : Kind} {q : ℕ} {notes places offsets keys₀ places₀ counts₀
         let at : key_at keys (u - 1) ≡ key_at keys₀ t = eqb-true (key_at keys (u - 1)) x b.1 ∙ here in
         let back : t + 1 - 1 ≡ t = omega arith in
         record {
-          upto = omega arith;
           few = omega (arith, v.few);
           long_keys = v.long_keys;
           long_places = v.long_places;
@@ -105,7 +98,6 @@ module _ {κ : Kind} {q : ℕ} {notes places offsets keys₀ places₀ counts₀
         let differs : 0 < u → eqb (key_at keys (u - 1)) x ≡ false = λ a. rw (lt-ltb 0 u a) at s in
         rw both
         (record {
-          upto = omega arith;
           few = omega (arith, v.few);
           long_keys = ap length ek ∙ put_long keys u x ∙ v.long_keys;
           long_places = length-set new-places u p ∙ v.long_places;
@@ -129,9 +121,3 @@ module _ {κ : Kind} {q : ℕ} {notes places offsets keys₀ places₀ counts₀
               (l.below t h) (l.canonical t h) lk (omega (arith, v.few, v.long_places, y.room_places))
               lc (l.placed t h) (rw none at ew));
         })
-
-  pub grouping_all : {t u : ℕ} {keys new-places counts : List ℕ}
-      → Grouping κ q notes places offsets keys₀ places₀ counts₀ t u keys new-places counts → q ≤ t
-      → (rule : Rule) (K : ℕ) (label ks : List ℕ) → Listed rule K label ks q notes places offsets keys₀
-      → Grouped κ rule K label ks (rows q keys₀ offsets) u keys new-places counts
-  grouping_all {t} v h = let e : t ≡ q = omega (arith, v.upto) in rw e at v.grouped

@@ -36,7 +36,6 @@ module _ (K : ℕ) (label ks : List ℕ) (o : ℕ) where
 -- After o windows, of which the last one is given.
 pub record Looking (rule : Rule) (K : ℕ) (label ks notes₀ places₀ keys₀ offsets₀ : List ℕ) (o q : ℕ) (last : Seen) (notes places new-keys offsets : List ℕ) :
     Type 0 where
-  pub upto : o ≤ windows K label
   pub few : q ≤ o
   pub previous : (j : ℕ) → o ≡ suc j → Sees K label j last
   pub long_notes : length notes ≡ length notes₀
@@ -53,7 +52,6 @@ module _ (rule : Rule) {K : ℕ} {label : List ℕ} {n : ℕ} {keys notes₀ pla
   pub looking_none : {last : Seen} → Looking rule K label ks notes₀ places₀ keys₀ offsets₀ 0 0 last notes₀ places₀ keys₀ offsets₀
   unfolding new_rows rows
   looking_none = record {
-    upto = omega arith;
     few = omega arith;
     previous = λ j e. absurd (omega arith);
     long_notes = refl;
@@ -77,7 +75,6 @@ module _ (rule : Rule) {K : ℕ} {label : List ℕ} {n : ℕ} {keys notes₀ pla
         let r : new_rows K label ks (o + 1) ≡ new_rows K label ks o = rw (add-one o) (rows_known K label ks o s) in
         let g = v.gathers in
         record {
-          upto = omega arith;
           few = omega (arith, v.few);
           previous = λ j e. let d : j ≡ o = omega arith in rw d sx;
           long_notes = length-set notes o code ∙ v.long_notes;
@@ -101,7 +98,6 @@ module _ (rule : Rule) {K : ℕ} {label : List ℕ} {n : ℕ} {keys notes₀ pla
         rw (add-one o) (rows_new K label ks o s) in
         let g = v.gathers in
         record {
-          upto = omega arith;
           few = omega (arith, v.few);
           previous = λ j e. let d : j ≡ o = omega arith in rw d sx;
           long_notes = length-set notes o (code + 64) ∙ v.long_notes;
@@ -118,8 +114,3 @@ module _ (rule : Rule) {K : ℕ} {label : List ℕ} {n : ℕ} {keys notes₀ pla
                 ∙ rw (g.new, sx.kmer));
           };
         }
-
-  pub looking_all : {o q : ℕ} {x : Seen} {notes places new-keys offsets : List ℕ}
-      → Looking rule K label ks notes₀ places₀ keys₀ offsets₀ o q x notes places new-keys offsets → windows K label ≤ o
-      → Gathers rule K label ks (windows K label) q notes places new-keys offsets
-  looking_all {o} v h = let e : o ≡ windows K label = omega (arith, v.upto) in rw e at v.gathers

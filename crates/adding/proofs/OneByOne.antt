@@ -100,7 +100,6 @@ left_next text count starts lengths w i h =
 pub record SomeAdded (κ : Kind) (rule : Rule) (K n : ℕ) (keys₀ counts₀ text starts lengths : List ℕ) (count i : ℕ) (last : Addition)
     (keys counts : List ℕ) : Type 0 where
   pub inside : within text count starts lengths ≡ true
-  pub some : i ≤ count
   pub all : add_each κ rule K (untried n keys₀ counts₀) (listed count text starts lengths)
       ≡ add_each κ rule K (state i last keys counts) (left text count starts lengths i)
   pub ready : 0 < i → Ready κ K last.stored keys counts
@@ -108,26 +107,14 @@ pub record SomeAdded (κ : Kind) (rule : Rule) (K n : ℕ) (keys₀ counts₀ te
   pub long_counts : length counts ≡ length counts₀
 
 module _ {κ : Kind} {rule : Rule} {K n : ℕ} {keys₀ counts₀ text starts lengths : List ℕ} {count : ℕ} where
-  pub added_none : within text count starts lengths ≡ true
-      → SomeAdded κ rule K n keys₀ counts₀ text starts lengths count 0 (record { edges = 0; stored = n }) keys₀ counts₀
-  added_none w = record {
-    inside = w;
-    some = omega arith;
-    all = let e : count - 0 ≡ count = omega arith in rw e;
-    ready = λ h. absurd (not-suc-le-zero h);
-    long_keys = refl;
-    long_counts = refl;
-  }
-
   module _ {i : ℕ} {last : Addition} {keys counts : List ℕ}
       (s : SomeAdded κ rule K n keys₀ counts₀ text starts lengths count i last keys counts) where
-    pub added_all : count ≤ i → AddsLabels n (Ok (tried count last.stored (Ok last))) keys counts
+    pub added_all : i ≡ count → AddsLabels n (Ok (tried count last.stored (Ok last))) keys counts
         (add_each κ rule K (untried n keys₀ counts₀) (listed count text starts lengths))
     unfolding listed add_each
     added_all h =
         let e : count - i ≡ 0 = omega arith in
-        let all : i ≡ count = omega (arith, s.some) in
-        rw (s.all, e, all) (record { says = (refl, refl, refl); keys_after = refl; counts_after = refl })
+        rw (s.all, e, h) (record { says = (refl, refl, refl); keys_after = refl; counts_after = refl })
 
     module _ (more : i < count) where
       pub entry_there : (i < length starts) × (i < length lengths)
@@ -153,7 +140,6 @@ module _ {κ : Kind} {rule : Rule} {K n : ℕ} {keys₀ counts₀ text starts le
             let label = take (end - start) (drop start text) in
             record {
               inside = s.inside;
-              some = omega arith;
               all = s.all ∙ ap (λ (ls : List (List ℕ)). each κ rule K (state i last keys counts) ls) rest
                   ∙ each_more κ rule K i last keys counts label (left text count starts lengths (i + 1)) a next t;
               ready = λ _. more_ready κ rule K i last keys counts label (left text count starts lengths (i + 1)) a next t;

@@ -33,7 +33,7 @@ fn cells_for(n: usize, windows: usize) -> usize
     }
 }
 
-// Window by window, by a directory of whatever content.
+// Window by window, by a directory of whatever content: what it says does not matter.
 fn look_up(
     mode: Mode,
     k: usize,
@@ -74,28 +74,6 @@ fn look_up(
     new
 }
 
-// The directory is made first.
-fn look_up_by(
-    mode: Mode,
-    k: usize,
-    label: &[u8],
-    n: usize,
-    keys: &[u64],
-    directory: &mut [u32],
-    notes: &mut [u8],
-    places: &mut [u32],
-    new_keys: &mut [u64],
-    offsets: &mut [u32],
-) -> usize
-    requires { Spare k label.now n keys.now notes.old places.old new_keys.old offsets.old }
-    ensures { Gathers (rule_of mode) k label.now (keys_of n keys.now) (windows k label.now) result notes.new places.new new_keys.new offsets.new }
-{
-    directory::make(k, n, keys, directory);
-    look_up(
-        mode, k, label, n, keys, directory, notes, places, new_keys, offsets,
-    )
-}
-
 // Of each window what is noted and the place of its k-mer; the k-mers and offsets of the new ones, and how many they are.
 pub(crate) fn gather(
     mode: Mode,
@@ -111,18 +89,10 @@ pub(crate) fn gather(
     requires { Spare k label.now n keys.now notes.old places.old new_keys.old offsets.old }
     ensures { Gathers (rule_of mode) k label.now (keys_of n keys.now) (windows k label.now) result notes.new places.new new_keys.new offsets.new }
 {
-    let mut directory = [0u32; 4097];
-    let cells = cells_for(n, label.len() - k + 1);
-    look_up_by(
-        mode,
-        k,
-        label,
-        n,
-        keys,
-        &mut directory[..cells],
-        notes,
-        places,
-        new_keys,
-        offsets,
+    let mut cells = [0u32; 4097];
+    let directory = &mut cells[..cells_for(n, label.len() - k + 1)];
+    directory::make(k, n, keys, directory);
+    look_up(
+        mode, k, label, n, keys, directory, notes, places, new_keys, offsets,
     )
 }

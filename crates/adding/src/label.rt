@@ -43,7 +43,7 @@ fn make_vertices(
     ensures { Looked (rule_of mode) k label.now (keys_of n keys.now) (windows k label.now) notes.new places.new × Grouped (kind_of kind) (rule_of mode) k label.now (keys_of n keys.now) (sorted_new k label.now (keys_of n keys.now)) result new_keys.new new_places.new new_counts.new }
 {
     let rows = gathering::gather(mode, k, label, n, keys, notes, places, new_keys, offsets);
-    let _sorted = keysort::sort_rows(k, new_keys, offsets, rows);
+    keysort::sort_rows(k, new_keys, offsets, rows);
     counting::group(
         kind, rows, notes, places, offsets, new_keys, new_places, new_counts,
     )

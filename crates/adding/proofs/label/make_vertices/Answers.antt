@@ -11,7 +11,7 @@ group-requires c =
     let long = c.gather-rows.auto in
     rowed {ks = keys_of c.args.n c.args.keys.now} y.0.given c.gather-rows.ensures
     (rw long.new_keys y.0.room_keys) (rw long.offsets y.0.room_offsets)
-    c.sort_rows-sorted.ensures c.sort_rows-sorted.auto.keys c.sort_rows-sorted.auto.numbers
+    c.sort_rows.ensures c.sort_rows.auto.keys c.sort_rows.auto.numbers
     (omega (arith, y.0.room_notes, long.notes)) (omega (arith, y.0.room_places, long.places)) y.1 y.2
 
 pub returns : goal.returns
@@ -19,7 +19,7 @@ returns c =
     let ks = keys_of c.args.n c.args.keys.now in
     let y = c.requires.0 in
     let long = c.gather-rows.auto in
-    let z = c.sort_rows-sorted in (
+    let z = c.sort_rows in (
       c.gather-rows.ensures.looked,
       sorted_grouped {ks = ks} y.given c.gather-rows.ensures
           (rw long.new_keys y.room_keys) (rw long.offsets y.room_offsets) z.ensures z.auto.keys z.auto.numbers

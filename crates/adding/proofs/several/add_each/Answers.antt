@@ -29,4 +29,4 @@ returns-in_default c =
     added_ends c.loop-i.invariant c.loop-i-test.true refl refl c.add_next-answer.ensures (refused _ c.in_default.not-Ok)
 
 pub returns : goal.returns
-returns c = added_all c.loop-i.invariant c.loop-i-test.false
+returns c = added_all c.loop-i.invariant (omega arith)
