@@ -2,58 +2,55 @@
 // holds what the Rust original answers to the same questions (oracle/).
 #![tactic(auto)]
 
-use dna::{AsciiBits, Base, Written};
+use dna::{Base, NoRoom};
+use std::fmt::Display;
 use std::io;
 
-fn number(rt: &impl Print, n: u64) -> io::Result<()> {
+fn number(rt: &impl Print, n: impl Display + Drop) -> io::Result<()> {
     print!(rt; " {n}")
 }
 
 fn test(rt: &impl Print, t: bool) -> io::Result<()> {
-    if t {
-        print!(rt; " 1")
-    } else {
-        print!(rt; " 0")
-    }
+    number(rt, u8::from(t))
 }
 
-fn bits(rt: &impl Print, b: AsciiBits) -> io::Result<()> {
+fn bits(rt: &impl Print, b: Option<u8>) -> io::Result<()> {
     match b {
-        AsciiBits::Bits(x) => number(rt, x as u64),
-        AsciiBits::NoBase => print!(rt; " -"),
+        Some(x) => number(rt, x),
+        None => print!(rt; " -"),
     }
 }
 
 fn byte_line(rt: &impl Print, b: u8) -> io::Result<()> {
     print!(rt; "byte {b}")?;
-    number(rt, Base::from_ascii(b).bits() as u64)?;
+    number(rt, Base::from_ascii(b).bits())?;
     test(rt, dna::is_dna_ascii(b))?;
-    number(rt, dna::complement_ascii(b) as u64)?;
+    number(rt, dna::complement_ascii(b))?;
     bits(rt, dna::ascii_base_bits(b))?;
-    number(rt, dna::valid_ascii_base_bits(b) as u64)?;
+    number(rt, dna::valid_ascii_base_bits(b))?;
     bits(rt, dna::ascii_complement_bits(b))?;
     println!(rt;)
 }
 
 fn base_line(rt: &impl Print, b: Base) -> io::Result<()> {
     print!(rt; "base")?;
-    number(rt, b.bits() as u64)?;
-    number(rt, b.to_ascii() as u64)?;
-    number(rt, b.complement().bits() as u64)?;
+    number(rt, b.bits())?;
+    number(rt, b.to_ascii())?;
+    number(rt, b.complement().bits())?;
     test(rt, b.is_dna())?;
     println!(rt;)
 }
 
 // The first n bytes of a text that has them.
 fn first(s: &[u8], n: usize) -> &[u8] {
-    if n <= s.len() { &s[..n] } else { s }
+    s.get(..n).unwrap_or(s)
 }
 
-fn written(rt: &impl Print, w: Written, out: &[u8]) -> io::Result<()> {
+fn written(rt: &impl Print, w: Result<usize, NoRoom>, out: &[u8]) -> io::Result<()> {
     print!(rt; " ")?;
     match w {
-        Written::Done(n) => rt.write_all(first(out, n)),
-        Written::NoRoom => print!(rt; "no room"),
+        Ok(n) => rt.write_all(first(out, n)),
+        Err(NoRoom) => print!(rt; "no room"),
     }
 }
 
@@ -63,7 +60,7 @@ fn label_line(rt: &impl Print, label: &[u8]) -> io::Result<()> {
     rt.write_all(label)?;
     let w = dna::reverse_complement_label(label, &mut out);
     written(rt, w, &out)?;
-    number(rt, dna::least_rotation_start(label) as u64)?;
+    number(rt, dna::least_rotation_start(label))?;
     let w = dna::minimal_rotation(label, &mut out);
     written(rt, w, &out)?;
     println!(rt;)
@@ -76,7 +73,7 @@ fn word(rt: &impl Print, w: usize, len: usize) -> io::Result<()> {
     let mut rest = w;
     for place in &mut label {
         *place = letters[rest % 3];
-        rest = rest / 3;
+        rest /= 3;
     }
     label_line(rt, first(&label, len))
 }
@@ -97,23 +94,18 @@ fn bytes(rt: &impl Print) -> io::Result<()> {
 }
 
 fn bases(rt: &impl Print) -> io::Result<()> {
-    base_line(rt, Base::A)?;
-    base_line(rt, Base::C)?;
-    base_line(rt, Base::G)?;
-    base_line(rt, Base::T)?;
-    base_line(rt, Base::N)?;
-    base_line(rt, Base::E)
+    for b in [Base::A, Base::C, Base::G, Base::T, Base::N, Base::E] {
+        base_line(rt, b)?;
+    }
+    Ok(())
 }
 
 fn main(rt: HostRuntime) -> io::Result<()> {
     bytes(&rt)?;
     bases(&rt)?;
-    words(&rt, 0, 1)?;
-    words(&rt, 1, 3)?;
-    words(&rt, 2, 9)?;
-    words(&rt, 3, 27)?;
-    words(&rt, 4, 81)?;
-    words(&rt, 5, 243)?;
+    for (len, count) in [(0, 1), (1, 3), (2, 9), (3, 27), (4, 81), (5, 243)] {
+        words(&rt, len, count)?;
+    }
     label_line(&rt, b"acgtuACGTUNRYn-")?;
     label_line(&rt, b"GATTACAGATTACA")?;
     label_line(&rt, b"TTTTTTTTTTTTTTTTTTTTTTTTTTTTTTTTTTTTTTTA")?;

@@ -3,7 +3,7 @@
 #![tactic(auto)]
 
 use dna::Base;
-use kmer::{Answered, BaseAnswer, Kmer, KmerAnswer, KmerError, LettersAnswer, TestAnswer};
+use kmer::{Kmer, KmerError};
 use std::io;
 
 fn error(rt: &impl Print, e: KmerError) -> io::Result<()> {
@@ -23,37 +23,35 @@ fn words(rt: &impl Print, x: Kmer) -> io::Result<()> {
     print!(rt; " {high:016x}:{low:016x}")
 }
 
-fn answered(rt: &impl Print, a: Answered) -> io::Result<()> {
-    match a.answer {
-        KmerAnswer::Done => {}
-        KmerAnswer::Refused(e) => error(rt, e)?,
+// A refusal, and the k-mer: zero beside a refusal.
+fn answered(rt: &impl Print, a: Result<Kmer, KmerError>) -> io::Result<()> {
+    if let Err(e) = a {
+        error(rt, e)?;
     }
-    words(rt, a.kmer)
+    words(rt, a.unwrap_or(Kmer::zero()))
 }
 
-fn base(rt: &impl Print, b: BaseAnswer) -> io::Result<()> {
+fn base(rt: &impl Print, b: Result<Base, KmerError>) -> io::Result<()> {
     match b {
-        BaseAnswer::Found(b) => rt.write_all(&[b' ', b.to_ascii()]),
-        BaseAnswer::Refused(e) => error(rt, e),
+        Ok(b) => rt.write_all(&[b' ', b.to_ascii()]),
+        Err(e) => error(rt, e),
     }
 }
 
-fn test(rt: &impl Print, t: TestAnswer) -> io::Result<()> {
+fn test(rt: &impl Print, t: Result<bool, KmerError>) -> io::Result<()> {
     match t {
-        TestAnswer::Is(true) => print!(rt; " yes"),
-        TestAnswer::Is(false) => print!(rt; " no"),
-        TestAnswer::Refused(e) => error(rt, e),
+        Ok(true) => print!(rt; " yes"),
+        Ok(false) => print!(rt; " no"),
+        Err(e) => error(rt, e),
     }
 }
 
-fn written(rt: &impl Print, a: LettersAnswer) -> io::Result<()> {
+fn written(rt: &impl Print, a: Result<usize, KmerError>) -> io::Result<()> {
     match a {
-        LettersAnswer::Written(n) => print!(rt; " {n} "),
-        LettersAnswer::Refused(e) => {
-            error(rt, e)?;
-            print!(rt; " ")
-        }
-    }
+        Ok(n) => print!(rt; " {n}"),
+        Err(e) => error(rt, e),
+    }?;
+    print!(rt; " ")
 }
 
 // The letters in a slice of 66 dots, and in one that may be too short.
@@ -68,17 +66,14 @@ fn letters(rt: &impl Print, k: usize, x: Kmer) -> io::Result<()> {
 
 fn rolls(rt: &impl Print, k: usize, x: Kmer) -> io::Result<()> {
     print!(rt; "\n  forward")?;
-    answered(rt, x.roll_forward(k, Base::A))?;
-    answered(rt, x.roll_forward(k, Base::C))?;
-    answered(rt, x.roll_forward(k, Base::G))?;
-    answered(rt, x.roll_forward(k, Base::T))?;
-    answered(rt, x.roll_forward(k, Base::N))?;
+    for next in [Base::A, Base::C, Base::G, Base::T, Base::N] {
+        answered(rt, x.roll_forward(k, next))?;
+    }
     print!(rt; "\n  backward")?;
-    answered(rt, x.roll_backward(k, Base::A))?;
-    answered(rt, x.roll_backward(k, Base::C))?;
-    answered(rt, x.roll_backward(k, Base::G))?;
-    answered(rt, x.roll_backward(k, Base::T))?;
-    answered(rt, x.roll_backward(k, Base::E))
+    for prev in [Base::A, Base::C, Base::G, Base::T, Base::E] {
+        answered(rt, x.roll_backward(k, prev))?;
+    }
+    Ok(())
 }
 
 fn places(rt: &impl Print, k: usize, x: Kmer) -> io::Result<()> {
@@ -107,7 +102,7 @@ fn from_text(rt: &impl Print, k: usize, s: &[u8]) -> io::Result<()> {
     print!(rt; "text {k}")?;
     let a = Kmer::from_ascii(k, s);
     answered(rt, a)?;
-    kmer_lines(rt, k, a.kmer)
+    kmer_lines(rt, k, a.unwrap_or(Kmer::zero()))
 }
 
 fn from_words(rt: &impl Print, k: usize, low: u64, high: u64) -> io::Result<()> {
@@ -131,61 +126,47 @@ fn compare(rt: &impl Print, k: usize, low: u64, high: u64) -> io::Result<()> {
     println!(rt;)
 }
 
-fn texts(rt: &impl Print, k: usize) -> io::Result<()> {
-    from_text(
-        rt,
-        k,
-        b"AAAAAAAAAAAAAAAAAAAAAAAAAAAAAAAAAAAAAAAAAAAAAAAAAAAAAAAAAAAAAAAA",
-    )?;
-    from_text(
-        rt,
-        k,
-        b"TTTTTTTTTTTTTTTTTTTTTTTTTTTTTTTTTTTTTTTTTTTTTTTTTTTTTTTTTTTTTTTT",
-    )?;
-    from_text(
-        rt,
-        k,
-        b"ATATATATATATATATATATATATATATATATATATATATATATATATATATATATATATATAT",
-    )?;
-    from_text(
-        rt,
-        k,
-        b"ACGTACGTACGTACGTACGTACGTACGTACGTACGTACGTACGTACGTACGTACGTACGTACGT",
-    )?;
-    from_text(
-        rt,
-        k,
-        b"gattacaUCGGCTAAGTCCATTGACGTTACCGGATATCGCAATGCTTGGACCTTAAGCGCTATGACC",
-    )?;
-    from_text(
-        rt,
-        k,
-        b"ACGTACGTACGTACGTACGTACGTACGTACGNACGTACGTACGTACGTACGTACGTACGTACNT",
-    )?;
-    from_text(rt, k, b"TGCATGCATGCATGCATGCATGCATGCATG")
-}
+// Some longer than the largest K, one with bad letters, one shorter.
+const TEXTS: [&[u8]; 7] = [
+    b"AAAAAAAAAAAAAAAAAAAAAAAAAAAAAAAAAAAAAAAAAAAAAAAAAAAAAAAAAAAAAAAA",
+    b"TTTTTTTTTTTTTTTTTTTTTTTTTTTTTTTTTTTTTTTTTTTTTTTTTTTTTTTTTTTTTTTT",
+    b"ATATATATATATATATATATATATATATATATATATATATATATATATATATATATATATATAT",
+    b"ACGTACGTACGTACGTACGTACGTACGTACGTACGTACGTACGTACGTACGTACGTACGTACGT",
+    b"gattacaUCGGCTAAGTCCATTGACGTTACCGGATATCGCAATGCTTGGACCTTAAGCGCTATGACC",
+    b"ACGTACGTACGTACGTACGTACGTACGTACGNACGTACGTACGTACGTACGTACGTACGTACNT",
+    b"TGCATGCATGCATGCATGCATGCATGCATG",
+];
 
-// Each side of the borders: of the low word, and of 4 to the K.
-fn borders(rt: &impl Print, k: usize) -> io::Result<()> {
-    from_words(rt, k, 3, 0)?;
-    from_words(rt, k, 4, 0)?;
-    from_words(rt, k, 0x3fff_ffff_ffff_ffff, 0)?;
-    from_words(rt, k, 0x4000_0000_0000_0000, 0)?;
-    from_words(rt, k, 0x8000_0000_0000_0000, 0)?;
-    from_words(rt, k, 0xffff_ffff_ffff_ffff, 0)?;
-    from_words(rt, k, 0, 1)?;
-    from_words(rt, k, 0, 3)?;
-    from_words(rt, k, 0, 4)?;
-    from_words(rt, k, 0xffff_ffff_ffff_ffff, 0x3fff_ffff_ffff_ffff)?;
-    from_words(rt, k, 0, 0x4000_0000_0000_0000)?;
-    compare(rt, k, 0, 1)?;
-    compare(rt, k, 0x8000_0000_0000_0000, 0)?;
-    compare(rt, k, 0xffff_ffff_ffff_fffe, 3)
-}
+// Each side of the borders, of the low word and of 4 to the K: low words and high words.
+const BORDERS: [(u64, u64); 11] = [
+    (3, 0),
+    (4, 0),
+    (0x3fff_ffff_ffff_ffff, 0),
+    (0x4000_0000_0000_0000, 0),
+    (0x8000_0000_0000_0000, 0),
+    (0xffff_ffff_ffff_ffff, 0),
+    (0, 1),
+    (0, 3),
+    (0, 4),
+    (0xffff_ffff_ffff_ffff, 0x3fff_ffff_ffff_ffff),
+    (0, 0x4000_0000_0000_0000),
+];
 
 fn edges(rt: &impl Print, k: usize) -> io::Result<()> {
-    texts(rt, k)?;
-    borders(rt, k)
+    for text in TEXTS {
+        from_text(rt, k, text)?;
+    }
+    for (low, high) in BORDERS {
+        from_words(rt, k, low, high)?;
+    }
+    for (low, high) in [
+        (0, 1),
+        (0x8000_0000_0000_0000, 0),
+        (0xffff_ffff_ffff_fffe, 3),
+    ] {
+        compare(rt, k, low, high)?;
+    }
+    Ok(())
 }
 
 // A K that is refused.
@@ -198,11 +179,8 @@ fn outside(rt: &impl Print, k: usize) -> io::Result<()> {
 fn main(rt: HostRuntime) -> io::Result<()> {
     outside(&rt, 0)?;
     outside(&rt, 64)?;
-    edges(&rt, 1)?;
-    edges(&rt, 2)?;
-    edges(&rt, 31)?;
-    edges(&rt, 32)?;
-    edges(&rt, 33)?;
-    edges(&rt, 62)?;
-    edges(&rt, 63)
+    for k in [1, 2, 31, 32, 33, 62, 63] {
+        edges(&rt, k)?;
+    }
+    Ok(())
 }
