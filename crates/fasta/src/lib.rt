@@ -23,14 +23,12 @@ fn has_room(lengths: &[u32], count: usize, room: usize) -> bool
     ensures { result ≡ leb (size_of count lengths.now) room }
 {
     let mut left = room;
-    let mut i = 0;
-    while i < count {
-        let size = wide(lengths[i]) + 4;
+    for length in &lengths[..count] {
+        let size = wide(*length) + 4;
         if left < size {
             return false;
         }
         left -= size;
-        i += 1;
     }
     true
 }
@@ -41,9 +39,7 @@ fn write_record(label: &[u8], out: &mut [u8]) -> usize
     ensures { (result ≡ length label.now + 4) × (out.new ≡ over (record_of label.now) out.old) }
 {
     let n = label.len();
-    out[0] = b'>';
-    out[1] = b'0';
-    out[2] = b'\n';
+    out[..3].copy_from_slice(b">0\n");
     out[3..3 + n].copy_from_slice(label);
     out[3 + n] = b'\n';
     n + 4
@@ -57,16 +53,16 @@ fn write_records(
     count: usize,
     out: &mut [u8],
 ) -> usize
-    requires { (within labels.now count starts.now lengths.now ≡ true) × (size_of count lengths.now ≤ length out.old) }
-    ensures { (result ≡ size_of count lengths.now) × (out.new ≡ over (records_of (listed count labels.now starts.now lengths.now)) out.old) }
+    requires { (within labels.now count starts.now lengths.now ≡ true)
+        × (size_of count lengths.now ≤ length out.old) }
+    ensures { (result ≡ size_of count lengths.now)
+        × (out.new ≡ over (records_of (listed count labels.now starts.now lengths.now)) out.old) }
 {
     let mut at = 0;
-    let mut i = 0;
-    while i < count {
-        let start = wide(starts[i]);
-        let end = start + wide(lengths[i]);
+    for (start, length) in starts[..count].iter().zip(&lengths[..count]) {
+        let start = wide(*start);
+        let end = start + wide(*length);
         at += write_record(&labels[start..end], &mut out[at..]);
-        i += 1;
     }
     at
 }
