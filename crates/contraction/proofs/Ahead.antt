@@ -14,7 +14,7 @@ use Rattle.marks.specs.Ready.{keys_for}
 use Rattle.contraction.specs.Over.{run_in}
 use Rattle.contraction.specs.Says.{WritesLabel, starts_of, lengths_of}
 use Rattle.contraction.specs.Trail.{label_from}
-use Rattle.contraction.specs.declared.Written.{Written}
+use Rattle.contraction.specs.declared.Label.{Label}
 use Rattle.contraction.proofs.Listed.{Listed, standing}
 use Rattle.contraction.proofs.Appending.{end_to_end_snoc, length_starts, length_lengths, starts_snoc, lengths_snoc}
 use Rattle.contraction.proofs.Placing.{over_pasted}
@@ -65,7 +65,7 @@ module _ {K : ℕ} {keys ms trail buffer starts lengths : List ℕ} {labels at f
         length_room = omega (arith, number_next, h.number, g.roomy.lengths_fit, g.long_lengths);
       }
 
-  pub listed_more : {w : Written} {buffer₂ : List ℕ} → length buffer₂ ≡ length buffer'
+  pub listed_more : {w : Label} {buffer₂ : List ℕ} → length buffer₂ ≡ length buffer'
       → WritesLabel K (key keys a) trail from w buffer' at buffer₂
       → Listed K keys ms trail buffer starts lengths (labels + 1) (at + w.bases) w.end (a + 1) buffer₂
       (set starts' labels at) (set lengths' labels w.bases)

@@ -5,6 +5,7 @@ use mathlib.Core.List.{List, map}
 use Prim.Native.Nat.{ℕ, ◌≤◌}
 use native.Mathlib.Omega.{arith}
 use lib.Dec.{ltb}
+use Rattle.std.specs.Prelude.{Ok, Err}
 use lib.ListN.{length, take, replicate, length-replicate}
 use borrow.Author.Tests.{ltb-false}
 use Rattle.lemmas.proofs.Tests.{or_first, or_second}
@@ -18,7 +19,7 @@ use Rattle.marks.specs.Marks.{mark_of, visits}
 use Rattle.contraction.specs.Over.{run_in}
 use Rattle.contraction.specs.Says.{Contracts, Surveys, Roomy, Lists, finish_in}
 use Rattle.contraction.specs.Trail.{trail_in, Trails}
-use Rattle.contraction.specs.declared.ContractAnswer.TheVariants as answers
+use Rattle.contraction.specs.declared.ContractError.TheVariants.{MissingVertex, NoRoom}
 use Rattle.dna.proofs.Overwriting.{over_all}
 use Rattle.contraction.proofs.Digested.{run_is}
 use Rattle.marks.proofs.Marking.{ends_length}
@@ -29,50 +30,50 @@ use Rattle.contraction.proofs.Trailing.{run_same, trails_over}
 
 -- The marks are those that the table's words give, and all walks were followed over them.
 module _ (κ : Kind) (K cutoff : ℕ) (keys counts labels starts lengths ms₀ : List ℕ) (t : FitTable K keys counts ms₀) {ms : List ℕ}
-    (d : ms ≡ over (map (mark_of κ cutoff) (take (length ms₀) counts)) ms₀) {number bases : ℕ} {missing : Bool} {after : List ℕ}
-    (s : Surveys K keys ms (length ms) number bases missing after) where
+    (d : ms ≡ over (map (mark_of κ cutoff) (take (length ms₀) counts)) ms₀) where
   abbrev all : Run
   all = run K (keys_of (length ms₀) keys) (ends_in κ cutoff (table_of (length ms₀) keys counts)) (length ms₀)
 
   same : run_in K keys ms (length ms) ≡ all
   same = run_is κ K cutoff keys counts ms₀ t d
 
-  missed_is : all.missed ≡ missing
-  missed_is = sym (s.missed ∙ ap (λ (r : Run). r.missed) same)
-
-  number_is : length all.labels ≡ number
-  number_is = sym (s.number ∙ ap (λ (r : Run). length r.labels) same)
-
-  bases_is : length (end_to_end all.labels) ≡ bases
-  bases_is = sym (s.total ∙ ap (λ (r : Run). length (end_to_end r.labels)) same)
-
-  abbrev lacking : Bool
-  lacking = ltb (length labels) bases || ltb (length starts) number || ltb (length lengths) number
-
-  lacking_is : (ltb (length labels) (length (end_to_end all.labels)) || ltb (length starts) (length all.labels)
-      || ltb (length lengths) (length all.labels)) ≡ lacking
-  lacking_is = rw (bases_is, number_is)
-
-  zeros : {marks : List ℕ} → marks ≡ replicate (length after) 0 → length after ≡ length ms₀
+  zeros : {after marks : List ℕ} → marks ≡ replicate (length after) 0 → length after ≡ length ms₀
       → marks ≡ over (replicate (length ms₀) 0) ms₀
-  zeros e l =
+  zeros {after} e l =
       e ∙ ap (λ (n : ℕ). replicate n 0) l
       ∙ sym (over_all (replicate (length ms₀) 0) ms₀ (length-replicate {A = ℕ} (length ms₀) 0))
 
-  pub missing_vertex : missing ≡ true → {marks : List ℕ} → marks ≡ replicate (length after) 0 → length after ≡ length ms₀
-      → Contracts answers.MissingVertex labels starts lengths marks (finish_in κ K cutoff (length ms₀) keys counts labels starts lengths ms₀)
+  pub missing_vertex : (run_in K keys ms (length ms)).missed ≡ true → {after marks : List ℕ} → marks ≡ replicate (length after) 0
+      → length after ≡ length ms₀
+      → Contracts (Err MissingVertex) labels starts lengths marks (finish_in κ K cutoff (length ms₀) keys counts labels starts lengths ms₀)
   unfolding finish
   missing_vertex h e l =
-      rw (missed_is, h)
-      (record { answer = refl; labels_after = refl; starts_after = refl; lengths_after = refl; marks_after = zeros e l })
+      let m : all.missed ≡ true = sym (ap (λ (r : Run). r.missed) same) ∙ h in
+      rw m (record { answer = refl; labels_after = refl; starts_after = refl; lengths_after = refl; marks_after = zeros e l })
 
-  module _ (h : missing ≡ false) where
+  module _ {number bases : ℕ} {after : List ℕ} (s : Surveys K keys ms (length ms) number bases after) where
+    found : all.missed ≡ false
+    found = sym (ap (λ (r : Run). r.missed) same) ∙ s.missed
+
+    number_is : length all.labels ≡ number
+    number_is = sym (s.number ∙ ap (λ (r : Run). length r.labels) same)
+
+    bases_is : length (end_to_end all.labels) ≡ bases
+    bases_is = sym (s.total ∙ ap (λ (r : Run). length (end_to_end r.labels)) same)
+
+    abbrev lacking : Bool
+    lacking = ltb (length labels) bases || ltb (length starts) number || ltb (length lengths) number
+
+    lacking_is : (ltb (length labels) (length (end_to_end all.labels)) || ltb (length starts) (length all.labels)
+        || ltb (length lengths) (length all.labels)) ≡ lacking
+    lacking_is = rw (bases_is, number_is)
+
     pub no_room : {short : Bool} → short ≡ lacking → short ≡ true → {marks : List ℕ} → marks ≡ replicate (length after) 0
         → length after ≡ length ms₀
-        → Contracts answers.NoRoom labels starts lengths marks (finish_in κ K cutoff (length ms₀) keys counts labels starts lengths ms₀)
+        → Contracts (Err NoRoom) labels starts lengths marks (finish_in κ K cutoff (length ms₀) keys counts labels starts lengths ms₀)
     unfolding finish
     no_room q k e l =
-        rw (missed_is, h, lacking_is, ← q, k)
+        rw (found, lacking_is, ← q, k)
         (record { answer = refl; labels_after = refl; starts_after = refl; lengths_after = refl; marks_after = zeros e l })
 
     module _ {short : Bool} (q : short ≡ lacking) (k : short ≡ false) where
@@ -101,22 +102,22 @@ module _ (κ : Kind) (K cutoff : ℕ) (keys counts labels starts lengths ms₀ :
             record { bases_fit = rw run_after room.bases_fit; starts_fit = rw run_after room.starts_fit; lengths_fit = rw run_after room.lengths_fit },
           )
 
-      pub contracted : {count : ℕ} {marks labels' starts' lengths' : List ℕ}
-          → (count ≡ length (run_in K keys after (length after)).labels) × (marks ≡ visits after)
+      pub contracted : {marks labels' starts' lengths' : List ℕ}
+          → (marks ≡ visits after)
           × Lists (run_in K keys after (length after)) (sorted (entries 0 (run_in K keys after (length after)).labels))
           labels labels' starts starts' lengths lengths'
           → length marks ≡ length ms₀
-          → Contracts (answers.Contracted count bases) labels' starts' lengths' marks
+          → Contracts (Ok (record { labels = number; bases = bases })) labels' starts' lengths' marks
           (finish_in κ K cutoff (length ms₀) keys counts labels starts lengths ms₀)
       unfolding finish written
       contracted {marks = marks} w₀ l =
           let w = rw (run_after ∙ same) at w₀ in
-          let m : marks ≡ all.marks = w.1 ∙ s.visits_after ∙ ap (λ (r : Run). r.marks) same in
-          rw (missed_is, h, lacking_is, ← q, k)
+          let m : marks ≡ all.marks = w.0 ∙ s.visits_after ∙ ap (λ (r : Run). r.marks) same in
+          rw (found, lacking_is, ← q, k)
           (record {
-            answer = ap₂ (λ (n b : ℕ). gives (record { labels = n; bases = b })) w.0 (sym bases_is);
-            labels_after = w.2.letters;
-            starts_after = w.2.starts_after;
-            lengths_after = w.2.lengths_after;
+            answer = ap₂ (λ (n b : ℕ). gives (record { labels = n; bases = b })) (sym number_is) (sym bases_is);
+            labels_after = w.1.letters;
+            starts_after = w.1.starts_after;
+            lengths_after = w.1.lengths_after;
             marks_after = m ∙ sym (over_all all.marks ms₀ (sym (ap length m) ∙ l));
           })

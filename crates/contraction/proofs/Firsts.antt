@@ -5,6 +5,7 @@ use mathlib.Core.List.{List, ◌++◌}
 use Prim.Native.Nat.{ℕ, ◌≤◌}
 use native.Mathlib.Omega.{arith}
 use lib.Dec.{ltb}
+use Rattle.std.specs.Prelude.{Result}
 use lib.ListN.{length, take, drop, replicate, length-replicate}
 use lib.Seq.{length-take-le}
 use Rattle.state.specs.Counted.{Kind}
@@ -15,7 +16,8 @@ use Rattle.graph.proofs.Keys.{keys_length}
 use Rattle.laws.proofs.Runs.{run_toured}
 use Rattle.marks.specs.Ready.{FitTable}
 use Rattle.contraction.specs.Says.{Contracts, finish_in}
-use Rattle.contraction.specs.declared.ContractAnswer.{ContractAnswer}
+use Rattle.contraction.specs.declared.Unitigs.{Unitigs}
+use Rattle.contraction.specs.declared.ContractError.{ContractError}
 use Rattle.dna.proofs.Overwriting.{over_first}
 
 -- Two contractions that differ in marks alone: the second has some more behind.
@@ -45,7 +47,7 @@ module _ (κ : Kind) (K cutoff n : ℕ) (keys counts labels starts lengths marks
       (record { answer = refl; labels = refl; starts = refl; lengths = refl; marks = zeros })
       (record { answer = refl; labels = refl; starts = refl; lengths = refl; marks = over_first r.marks marks n l h }))
 
-  pub first_marks : FitTable K keys counts (take n marks) → {z : ContractAnswer} {labels' starts' lengths' marks' : List ℕ}
+  pub first_marks : FitTable K keys counts (take n marks) → {z : Result Unitigs ContractError} {labels' starts' lengths' marks' : List ℕ}
       → Contracts z labels' starts' lengths' marks'
       (finish_in κ K cutoff (length (take n marks)) keys counts labels starts lengths (take n marks))
       → Contracts z labels' starts' lengths' (marks' ++ drop n marks) (finish_in κ K cutoff n keys counts labels starts lengths marks)

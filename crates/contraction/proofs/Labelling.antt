@@ -1,6 +1,6 @@
 -- An anchor's label from its two walks: its length, whether a vertex was missing, and the marks that the walks leave. Assumes nothing.
 use mathlib.Core.Path.{◌≡◌, refl, sym, ap, ◌∙◌}
-use mathlib.Core.Bool.{Bool, true, false, cond, ◌||◌}
+use mathlib.Core.Bool.{Bool, true, false, cond, ◌||◌, or-true}
 use mathlib.Core.List.{List, ◌++◌, map}
 use Prim.Native.Nat.{ℕ, ◌+◌, ◌≤◌}
 use native.Mathlib.Omega.{arith}
@@ -18,9 +18,10 @@ use Rattle.graph.specs.Labels.{spelt, label_of, extract}
 use Rattle.laws.proofs.Plain.{lesser_length}
 use Rattle.marks.specs.Marks.{ends}
 use Rattle.contraction.specs.Over.{walk_in, label_in}
-use Rattle.contraction.specs.Says.{Walks, Extracts}
+use Rattle.contraction.specs.Says.{Walks, Extracts, Misses}
 use Rattle.contraction.specs.Trail.{piece_in}
-use Rattle.contraction.specs.declared.Extracted.{Extracted}
+use Rattle.contraction.specs.declared.Label.{Label}
+use Rattle.contraction.specs.declared.ContractError.TheVariants.{MissingVertex}
 use Rattle.contraction.specs.declared.Walked.{Walked}
 use Rattle.marks.proofs.Marking.{ends_length}
 use Rattle.marks.specs.Ready.{keys_for, Ready}
@@ -69,7 +70,7 @@ module _ {K : ℕ} {keys ms : List ℕ} (r : Ready K keys ms) (a : ℕ) {b : Wal
 
   pub extracts_closed : closed b.last ≡ true → {trail trail' : List ℕ} {at end : ℕ} → end ≡ at + length (piece_in K keys ms a)
       → Placed trail at (piece_in K keys ms a) trail'
-      → Extracts K keys ms a (record { bases = K + b.bases; end = end; missing = false }) ms₁ trail at trail'
+      → Extracts K keys ms a (record { bases = K + b.bases; end = end }) ms₁ trail at trail'
   unfolding extract
   extracts_closed h e p =
       let c : closed B.last ≡ true = ap closed (sym back.last) ∙ h in
@@ -83,6 +84,10 @@ module _ {K : ℕ} {keys ms : List ℕ} (r : Ready K keys ms) (a : ℕ) {b : Wal
         walks = p.cells;
       }
 
+  pub misses_back : missing b.last ≡ true → Misses K keys ms a MissingVertex
+  unfolding extract
+  misses_back h = record { error = refl; missed = rw (← back.last, h) }
+
   -- The Front walk starts from the marks that the Back walk left.
   pub front_is : walk_in K keys ms₁ a Front ≡ F
   front_is =
@@ -90,16 +95,22 @@ module _ {K : ℕ} {keys ms : List ℕ} (r : Ready K keys ms) (a : ℕ) {b : Wal
       ∙ ap (λ (m : List ℕ). walk K (keys_for ms keys) (ends ms) a Front m) back.visits_after
 
   module _ {f : Walked} {ms₂ : List ℕ} (front : Walks K keys ms₁ a Front f ms₂) where
-    pub extracts_open : closed b.last ≡ false → {t : Bool} → t ≡ (missing b.last || missing f.last)
-        → {trail trail' : List ℕ} {at end : ℕ} → end ≡ at + length (piece_in K keys ms a) → Placed trail at (piece_in K keys ms a) trail'
-        → Extracts K keys ms a (record { bases = K + f.bases + b.bases; end = end; missing = t }) ms₂ trail at trail'
+    front_last : f.last ≡ F.last
+    front_last = front.last ∙ ap (λ (w : Walk). w.last) front_is
+
+    pub misses_front : closed b.last ≡ false → missing f.last ≡ true → Misses K keys ms a MissingVertex
     unfolding extract
-    extracts_open h {t} e q p =
+    misses_front c h = record { error = refl; missed = rw (← back.last, ← front_last, c, h) (or-true (missing b.last)) }
+
+    pub extracts_open : closed b.last ≡ false → missing b.last ≡ false → missing f.last ≡ false
+        → {trail trail' : List ℕ} {at end : ℕ} → end ≡ at + length (piece_in K keys ms a) → Placed trail at (piece_in K keys ms a) trail'
+        → Extracts K keys ms a (record { bases = K + f.bases + b.bases; end = end }) ms₂ trail at trail'
+    unfolding extract
+    extracts_open h m n q p =
         let c : closed B.last ≡ false = ap closed (sym back.last) ∙ h in
-        let l : f.last ≡ F.last = front.last ∙ ap (λ (w : Walk). w.last) front_is in
         record {
           bases = omega (arith, label_long h, back.bases, front.bases, ap (λ (w : Walk). length w.bases) front_is);
-          missed = e ∙ rw (back.last, l, c);
+          missed = rw (← back.last, ← front_last, h, m, n);
           ends_kept = front.ends_kept ∙ back.ends_kept;
           visits_after = front.visits_after ∙ rw (front_is, c);
           few = omega (arith, back.few, front.few, ends_length ms ms₁ back.ends_kept, r.few, (ok_bounds K r.ok).1);
@@ -108,6 +119,6 @@ module _ {K : ℕ} {keys ms : List ℕ} (r : Ready K keys ms) (a : ℕ) {b : Wal
         }
 
 -- The trail keeps its length.
-pub extracts_length : {K : ℕ} {keys ms : List ℕ} {a : ℕ} {r : Extracted} {after trail : List ℕ} {at : ℕ} {trail' : List ℕ}
+pub extracts_length : {K : ℕ} {keys ms : List ℕ} {a : ℕ} {r : Label} {after trail : List ℕ} {at : ℕ} {trail' : List ℕ}
     → Extracts K keys ms a r after trail at trail' → at + length (piece_in K keys ms a) ≤ length trail → length trail' ≡ length trail
 extracts_length {K} {keys} {ms} {a} x h = placed_length {text = piece_in K keys ms a} (record { room = h; cells = x.walks })

@@ -41,8 +41,8 @@ module _ (K : ℕ) (keys ms : List ℕ) (rd : Ready K keys ms) {count : ℕ} {b�
       (run_apart K (keys_for ms keys) (ends ms) (ok_bounds K rd.ok).0 rd.fits (λ v s _. rd.known v s) (length ms) (omega (arith, keys_marks rd)))
 
   pub all_listed : {s' l' marks : List ℕ} → Ordered b s l count s' l' → marks ≡ visits ms
-      → (count ≡ length ls) × (marks ≡ visits ms) × Lists (run_in K keys ms (length ms)) (sorted es) b₀ b s₀ s' l₀ l'
+      → (marks ≡ visits ms) × Lists (run_in K keys ms (length ms)) (sorted es) b₀ b s₀ s' l₀ l'
   all_listed q m =
       let number : count ≡ length es = w.number ∙ sym (length_entries 0 ls) in
       let i = index_is b reads apart s₀ l₀ (rw (w.lists.starts_after, w.lists.lengths_after, number) at q) in
-      (w.number, m, record { letters = w.lists.letters; starts_after = i.0; lengths_after = i.1 })
+      (m, record { letters = w.lists.letters; starts_after = i.0; lengths_after = i.1 })

@@ -5,6 +5,7 @@ use mathlib.Core.List.{List, append_assoc}
 use Prim.Native.Nat.{ℕ, ◌+◌, ◌-◌, ◌^◌, ◌≤◌, ◌<◌}
 use native.Mathlib.Omega.{arith}
 use lib.ListN.{length, take, drop}
+use Rattle.std.specs.Prelude.{Result}
 use lib.Seq.{paste, drop-drop, take_all}
 use borrow.Rule.Slice.PartMut.{mid_of, put_mid, mid_len}
 use Rattle.dna.specs.Text.{over, part}
@@ -12,7 +13,7 @@ use Rattle.dna.proofs.Overwriting.{over_all}
 use Rattle.kmer.specs.Kmer.{ok_k, letters}
 use Rattle.kmer.specs.Calls.{letters_call}
 use Rattle.kmer.specs.Says.{Spells}
-use Rattle.kmer.specs.declared.LettersAnswer.{LettersAnswer}
+use Rattle.kmer.specs.declared.KmerError.{KmerError}
 use Rattle.kmer.proofs.Spelling.{length_letters}
 use Rattle.kmer.proofs.Given.{letters_given}
 use Rattle.contraction.proofs.Copying.{part_length}
@@ -44,7 +45,7 @@ put_over buffer given text at n h e g =
 
 -- A k-mer's letters written into a part of as many cells.
 pub put_letters : (K x : ℕ) → ok_k K ≡ true → x < 4 ^ K → (buffer : List ℕ) (at : ℕ) → at + K ≤ length buffer
-    → (r : LettersAnswer) (given : List ℕ)
+    → (r : Result ℕ KmerError) (given : List ℕ)
     → Spells r given (letters_call K x (mid_of at (at + K - at) buffer)) → put_mid at (at + K - at) buffer given ≡ paste buffer at (letters K x) K
 put_letters K x ok small buffer at h r given t =
     let l : K ≤ length (mid_of at (at + K - at) buffer) = omega (arith, mid_len at (at + K) buffer h) in

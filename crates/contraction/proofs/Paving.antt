@@ -11,7 +11,7 @@ use Rattle.graph.specs.Walks.{visited, isolated}
 use Rattle.marks.specs.Marks.{ends, visits}
 use Rattle.contraction.specs.Says.{Extracts}
 use Rattle.contraction.specs.Trail.{piece_in, trail_in}
-use Rattle.contraction.specs.declared.Extracted.{Extracted}
+use Rattle.contraction.specs.declared.Label.{Label}
 use Rattle.marks.proofs.Marking.{ends_length}
 use Rattle.contraction.proofs.Placing.{over_pasted}
 use Rattle.contraction.proofs.Surveying.{Surveying, skipped_is}
@@ -27,8 +27,8 @@ pub paving_start : (K : ℕ) (keys ms trail : List ℕ) → 2 * length ms ≤ le
 unfolding trail_in
 paving_start K keys ms trail h = record { wide = h; place = refl; paved = refl }
 
-module _ {K : ℕ} {keys ms : List ℕ} {a labels bases : ℕ} {missing : Bool} {marks : List ℕ}
-    (g : Surveying K keys ms a labels bases missing marks) {trail now : List ℕ} {at : ℕ} (p : Paving K keys ms a trail at now) where
+module _ {K : ℕ} {keys ms : List ℕ} {a labels bases : ℕ} {marks : List ℕ}
+    (g : Surveying K keys ms a labels bases marks) {trail now : List ℕ} {at : ℕ} (p : Paving K keys ms a trail at now) where
   pub paving_length : length now ≡ length trail
   paving_length =
       ap length p.paved
@@ -63,7 +63,7 @@ module _ {K : ℕ} {keys ms : List ℕ} {a labels bases : ℕ} {missing : Bool} 
       pub piece_fits : at + length (piece_in K keys marks a) ≤ length now
       piece_fits = omega (arith, long, short, paving_length)
 
-      pub paving_take : {l : Extracted} {after now' : List ℕ} → Extracts K keys marks a l after now at now'
+      pub paving_take : {l : Label} {after now' : List ℕ} → Extracts K keys marks a l after now at now'
           → Paving K keys ms (a + 1) trail l.end now'
       paving_take x = record {
         wide = p.wide;

@@ -1,5 +1,5 @@
 -- A walk's letters read back from a text: how many stand before the byte that ends them. Assumes nothing.
-use mathlib.Core.Path.{◌≡◌, sym, ap, ◌∙◌}
+use mathlib.Core.Path.{◌≡◌, refl, sym, ap, ◌∙◌}
 use mathlib.Core.List.{List, [], ◌∷◌, ◌++◌, map}
 use Prim.Native.Nat.{ℕ, zero, suc, ◌+◌, ◌≤◌, ◌<◌}
 use native.Mathlib.Omega.{arith}
@@ -7,7 +7,8 @@ use borrow.Author.Tests.{lt-ltb, le-ltb}
 use lib.Dec.{ltb}
 use lib.ListN.{length, get_or, take, drop, length-map, length-append}
 use lib.Seq.{take_at, get_or_at, drop-append-add}
-use Rattle.lemmas.proofs.Tests.{choose}
+use Rattle.std.specs.List.{prefix_len}
+use Rattle.std.proofs.Math.Numerals.{one-add}
 use Rattle.dna.specs.Letters.{letter_of}
 use Rattle.contraction.specs.Trail.{letter_count, Ended}
 
@@ -22,23 +23,11 @@ letter_above (suc (suc (suc (suc zero)))) = omega arith
 letter_above (suc (suc (suc (suc (suc zero))))) = omega arith
 letter_above (suc (suc (suc (suc (suc (suc c)))))) = omega arith
 
--- ---- one byte after the other
-
--- A letter behind the first i is one more.
-pub count_more : (s : List ℕ) (i : ℕ) → i ≤ letter_count s → 2 < get_or s i 0 → i < letter_count s
+-- How many letters a text begins with, in std's word.
+pub count_prefix : (s : List ℕ) → prefix_len (ltb 2) s ≡ letter_count s
 unfolding letter_count
-count_more [] i h l = absurd (omega arith)
-count_more (b ∷ s) zero h l = rw (lt-ltb 2 b l) (omega arith)
-count_more (b ∷ s) (suc i) h l =
-    choose (λ (n : ℕ). suc i ≤ n → suc i < n) (ltb 2 b) (λ _ k. let ih = count_more s i (omega arith) l in omega arith) (λ _ k. absurd (omega arith)) h
-
--- Any other byte is the end.
-pub count_ends : (s : List ℕ) (i : ℕ) → i ≤ letter_count s → get_or s i 0 ≤ 2 → i ≡ letter_count s
-unfolding letter_count
-count_ends [] i h l = omega arith
-count_ends (b ∷ s) zero h l = rw (le-ltb 2 b l)
-count_ends (b ∷ s) (suc i) h l =
-    choose (λ (n : ℕ). suc i ≤ n → suc i ≡ n) (ltb 2 b) (λ _ k. ap suc (count_ends s i (omega arith) l)) (λ _ k. absurd (omega arith)) h
+count_prefix [] = refl
+count_prefix (b ∷ s) = rw (count_prefix s, one-add)
 
 -- ---- a text that begins with a walk's letters and a byte that is none
 

@@ -5,13 +5,14 @@ use mathlib.Core.List.{List}
 use Prim.Native.Nat.{ℕ, ◌-◌, ◌^◌, ◌<◌}
 use native.Mathlib.Omega.{arith}
 use lib.ListN.{length, get_or}
+use Rattle.std.specs.Prelude.{Result, Ok}
 use borrow.Author.Tests.{ltb-true}
 use Rattle.dna.specs.Letters.{complement}
 use Rattle.kmer.specs.Kmer.{ok_k, rc, forward, backward}
 use Rattle.kmer.specs.Calls.{reverse_call, forward_call, backward_call}
-use Rattle.kmer.specs.Says.{value_of, Answers}
-use Rattle.kmer.specs.declared.Answered.{Answered}
+use Rattle.kmer.specs.Says.{value_of, kmer_of, Answers}
 use Rattle.kmer.specs.declared.Kmer.{Kmer}
+use Rattle.kmer.specs.declared.KmerError.{KmerError}
 use Rattle.kmer.proofs.Bounds.{ok_bounds}
 use Rattle.kmer.proofs.Wide.{value_back}
 use Rattle.kmer.proofs.Given.{kmer_given, roll_given}
@@ -31,9 +32,13 @@ use Rattle.marks.proofs.Marking.{ends_length}
 use Rattle.marks.specs.Ready.{keys_for, Ready}
 use Rattle.marks.proofs.Still.{keys_marks}
 
+-- The k-mer that a Result holds, where it is known which.
+held : {r : Result Kmer KmerError} {n : ℕ} {y : Kmer} → r ≡ Ok (kmer_of n) → r ≡ Ok y → y ≡ kmer_of n
+held e f = let g : ◌≡◌ {A = Result Kmer KmerError} (Ok _) (Ok _) = sym f ∙ e in cc
+
 -- Vertex v as it is stored, and turned.
 module _ {K : ℕ} {keys ms : List ℕ} (r : Ready K keys ms) (v : ℕ) (h : v < length ms)
-    (x : Kmer) (read : value_of x ≡ key keys v) {c : Answered} (turned : Answers c (reverse_call K (value_of x))) where
+    (x : Kmer) (read : value_of x ≡ key keys v) {t : Result Kmer KmerError} (turned : Answers t (reverse_call K (value_of x))) where
   abbrev stored : ℕ
   stored = get_or (keys_for ms keys) v 0
 
@@ -43,36 +48,48 @@ module _ {K : ℕ} {keys ms : List ℕ} (r : Ready K keys ms) (v : ℕ) (h : v <
   below : stored < 4 ^ K
   below = ltb-true _ _ (fit_each K 0 (keys_for ms keys) r.fits v (omega (arith, keys_marks r))).0
 
-  other : value_of c.kmer ≡ rc K stored
-  other =
-      value_back (rc K (value_of x)) (ap (λ (z : Answered). z.kmer) (kmer_given K (value_of x) r.ok (rw value below) (rc K (value_of x)) turned))
-      ∙ ap (rc K) value
+  pub turned_ok : t ≡ Ok (kmer_of (rc K (value_of x)))
+  turned_ok = kmer_given K (value_of x) r.ok (rw value below) (rc K (value_of x)) turned
 
-  pub seen_front : {s : Side} → s ≡ Front → Both K (seen K (keys_for ms keys) v s) (record { here = c.kmer; other = x })
-  seen_front e = rw e (record { below = rc_lt K stored; here = other; other = value ∙ sym (rc_rc K stored below) })
+  module _ {y : Kmer} (is : t ≡ Ok y) where
+    other : value_of y ≡ rc K stored
+    other = value_back (rc K (value_of x)) (held turned_ok is) ∙ ap (rc K) value
 
-  pub seen_back : {s : Side} → s ≡ Back → Both K (seen K (keys_for ms keys) v s) (record { here = x; other = c.kmer })
-  seen_back e = rw e (record { below = below; here = value; other = other })
+    pub seen_front : {s : Side} → s ≡ Front → Both K (seen K (keys_for ms keys) v s) (record { here = y; other = x })
+    seen_front e = rw e (record { below = rc_lt K stored; here = other; other = value ∙ sym (rc_rc K stored below) })
+
+    pub seen_back : {s : Side} → s ≡ Back → Both K (seen K (keys_for ms keys) v s) (record { here = x; other = y })
+    seen_back e = rw e (record { below = below; here = value; other = other })
 
 -- Base b appended to one, and its complement put in front of the other.
-module _ {K : ℕ} (ok : ok_k K ≡ true) {b : ℕ} (base : b < 4) {s : Strands} (strands : Both K (value_of s.here) s)
-    {y : Answered} (next : Answers y (forward_call K (value_of s.here) b))
-    {d : ℕ} (comp : d ≡ complement b) {z : Answered} (turned : Answers z (backward_call K (value_of s.other) d)) where
-  pub both_rolled : Both K (forward K (value_of s.here) b) (record { here = y.kmer; other = z.kmer })
-  both_rolled =
-      let x = value_of s.here in
-      let o = value_of s.other in
-      let e : d ≡ 3 - b = comp ∙ complement_is b base in
-      let one = (ok_bounds K ok).0 in
-      let l : o < 4 ^ K = rw strands.other (rc_lt K x) in
-      let m : d < 4 = omega arith in
-      record {
-        below = forward_lt K x b;
-        here = value_back (forward K x b) (ap (λ (a : Answered). a.kmer) (roll_given K x ok strands.below b (forward K x b) base next));
-        other =
-            value_back (backward K o d) (ap (λ (a : Answered). a.kmer) (roll_given K o ok l d (backward K o d) m turned))
-            ∙ rw (strands.other, e) (sym (rc_forward K x b one base));
-      }
+module _ {K : ℕ} (ok : ok_k K ≡ true) {b : ℕ} (base : b < 4) {s : Strands} (strands : Both K (value_of s.here) s) where
+  abbrev x : ℕ
+  x = value_of s.here
+
+  abbrev o : ℕ
+  o = value_of s.other
+
+  pub forward_ok : {t : Result Kmer KmerError} → Answers t (forward_call K x b) → t ≡ Ok (kmer_of (forward K x b))
+  forward_ok next = roll_given K x ok strands.below b (forward K x b) base next
+
+  module _ {d : ℕ} (comp : d ≡ complement b) where
+    rest : d ≡ 3 - b
+    rest = comp ∙ complement_is b base
+
+    pub backward_ok : {t : Result Kmer KmerError} → Answers t (backward_call K o d) → t ≡ Ok (kmer_of (backward K o d))
+    backward_ok turned = roll_given K o ok (rw strands.other (rc_lt K x)) d (backward K o d) (omega (arith, rest)) turned
+
+    pub both_rolled : {t u : Result Kmer KmerError} → Answers t (forward_call K x b) → Answers u (backward_call K o d)
+        → {y z : Kmer} → t ≡ Ok y → u ≡ Ok z → Both K (forward K x b) (record { here = y; other = z })
+    both_rolled next turned ey ez =
+        let one = (ok_bounds K ok).0 in
+        record {
+          below = forward_lt K x b;
+          here = value_back (forward K x b) (held (forward_ok next) ey);
+          other =
+              value_back (backward K o d) (held (backward_ok turned) ez)
+              ∙ rw (strands.other, rest) (sym (rc_forward K x b one base));
+        }
 
 -- Strands of one k-mer are strands of the same k-mer by another name.
 module _ {K x : ℕ} {s : Strands} (strands : Both K x s) where

@@ -21,10 +21,11 @@ use Rattle.marks.specs.Ready.{keys_for, Ready}
 use Rattle.marks.proofs.Still.{keys_marks}
 use Rattle.contraction.specs.Over.{run_in}
 
--- A run has no more labels than another, and no more bases.
+-- A run has no more labels than another, and no more bases, and came to no missing vertex unless the other did.
 pub record NoMore (r r₂ : Run) : Type 0 where
   pub number : length r.labels ≤ length r₂.labels
   pub total : length (end_to_end r.labels) ≤ length (end_to_end r₂.labels)
+  pub missed : r.missed ≡ true → r₂.missed ≡ true
 
 module _ (K : ℕ) (ks : List ℕ) (es : List Ends) where
   -- The label of anchor a under some marks.
@@ -45,6 +46,10 @@ module _ (K : ℕ) (ks : List ℕ) (es : List Ends) where
   unfolding extract
   extract_labels r a = refl
 
+  extract_missed : (r : Run) (a : ℕ) → r.missed ≡ true → (extract K ks es r a).missed ≡ true
+  unfolding extract
+  extract_missed r a h = rw h
+
   extract_grown : (r : Run) (a : ℕ) → NoMore r (extract K ks es r a)
   extract_grown r a =
       let l : List ℕ = label_under r.marks a in
@@ -52,10 +57,10 @@ module _ (K : ℕ) (ks : List ℕ) (es : List Ends) where
       ap length (extract_labels r a) ∙ length-append r.labels (l ∷ []) in
       let t : length (end_to_end (extract K ks es r a).labels) ≡ length (end_to_end r.labels) + length (label_under r.marks a) =
       ap (λ (ls : List (List ℕ)). length (end_to_end ls)) (extract_labels r a) ∙ total_snoc r.labels l in
-      record { number = omega arith; total = omega arith }
+      record { number = omega arith; total = omega arith; missed = extract_missed r a }
 
   same_grown : (r : Run) → NoMore r r
-  same_grown r = record { number = omega arith; total = omega arith }
+  same_grown r = record { number = omega arith; total = omega arith; missed = λ h. h }
 
   next_grown : (n : ℕ) → NoMore (run K ks es n) (run K ks es (suc n))
   unfolding run
@@ -71,7 +76,7 @@ module _ (K : ℕ) (ks : List ℕ) (es : List Ends) where
       here l = let e : a ≡ suc n = omega arith in rw e (same_grown (run K ks es (suc n)))
 
       on : NoMore (run K ks es a) (run K ks es n) → NoMore (run K ks es a) (run K ks es (suc n))
-      on g = let x = next_grown n in record { number = omega arith; total = omega arith }
+      on g = let x = next_grown n in record { number = omega arith; total = omega arith; missed = λ h. x.missed (g.missed h) }
 
 -- The labels of a run have at most 63 * 65,536 bases.
 pub run_small : {K : ℕ} {keys ms : List ℕ} → Ready K keys ms → (a : ℕ) → a ≤ length ms → length (end_to_end (run_in K keys ms a).labels) ≤ 4128768

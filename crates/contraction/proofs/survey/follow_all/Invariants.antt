@@ -1,13 +1,9 @@
 -- Each turn is one anchor of the run, and what it gives stands in the trail. Assumes nothing.
-use Prim.Native.Nat.{◌-◌}
-use lib.ListN.{length}
 use Rattle.contraction.proofs.Paving.{Paving}
 use Rattle.contraction.proofs.Surveying.{Surveying}
 use Rattle.contraction.proofs.survey.follow_all.Given as goal
 
 abbrev pub invariant-loop-a : goal.invariant-loop-a
 invariant-loop-a l =
-    Surveying l.k l.keys l.initial.marks l.a l.labels l.bases l.missing l.marks × Paving l.k l.keys l.initial.marks l.a l.initial.trail l.at l.trail
-
-abbrev pub decreases-loop-a : goal.decreases-loop-a
-decreases-loop-a l = length l.initial.marks - l.a
+    Surveying l.k l.keys l.initial.marks l.a l.all.labels l.all.bases l.marks
+    × Paving l.k l.keys l.initial.marks l.a l.initial.trail l.at l.trail

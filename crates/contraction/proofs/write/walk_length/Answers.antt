@@ -1,43 +1,21 @@
-use Prim.Native.Nat.{◌<◌}
-use native.Mathlib.Omega.{arith}
-use lib.ListN.{drop, length-drop}
-use lib.Seq.{get_or-drop}
-use Rattle.contraction.specs.Trail.{letter_count}
-use Rattle.contraction.proofs.Reading.{count_more, count_ends}
+-- The letters before the first byte that is none. Assumes nothing.
+use Rattle.std.proofs.Common.{◌≡◌, ℕ, List, ◌-◌, length, take, ltb, drop, ap, ◌∙◌, arith, rules, tests, length-drop, take_all}
+use Rattle.std.proofs.lemmas.Iterator.{YieldsList-from_slice}
+use Rattle.std.proofs.lemmas.Iterator.Consumers.{count_from_yields_List}
+use Rattle.std.proofs.lemmas.Iterator.Search.{YieldsList-from_take_while}
+use Rattle.std.proofs.lemmas.List.Folds.{length-prefix_len}
+use Rattle.contraction.proofs.Reading.{count_prefix}
 use Rattle.contraction.proofs.write.walk_length.Goals as goal
 
-pub overflow_add-from : goal.overflow_add-from
-overflow_add-from c = omega (arith, c.loop-i.invariant, c.requires.within, length-drop c.args.from c.args.trail.now, c.well_formed)
-
-pub bounds-trail-from : goal.bounds-trail-from
-bounds-trail-from c = omega (arith, c.loop-i.invariant, c.requires.within, length-drop c.args.from c.args.trail.now)
-
-pub overflow_add-i : goal.overflow_add-i
-overflow_add-i c =
-    let a = c.args in
-    let l = c.loop-i in
-    let more : l.i < letter_count (drop a.from a.trail.now) =
-    count_more (drop a.from a.trail.now) l.i l.invariant (rw (get_or-drop a.from a.trail.now l.i 0) c.loop-i-test.true) in
-    omega (arith, more, c.requires.within, length-drop c.args.from c.args.trail.now, c.well_formed)
-
-pub loop-i-smaller : goal.loop-i-smaller
-loop-i-smaller c =
-    let a = c.args in
-    let l = c.loop-i in
-    let more : l.i < letter_count (drop a.from a.trail.now) =
-    count_more (drop a.from a.trail.now) l.i l.invariant (rw (get_or-drop a.from a.trail.now l.i 0) c.loop-i-test.true) in
-    omega (arith, more)
-
-pub loop-i-preserved : goal.loop-i-preserved
-loop-i-preserved c =
-    let a = c.args in
-    let l = c.loop-i in
-    let more : l.i < letter_count (drop a.from a.trail.now) =
-    count_more (drop a.from a.trail.now) l.i l.invariant (rw (get_or-drop a.from a.trail.now l.i 0) c.loop-i-test.true) in
-    omega (arith, more)
+-- What is lent as `text[from..]`.
+from_on : (from : ℕ) (text : List ℕ) → take (length text - from) (drop from text) ≡ drop from text
+from_on from text = take_all _ (drop from text) (omega (arith, length-drop from text))
 
 pub returns : goal.returns
 returns c =
-    let a = c.args in
-    let l = c.loop-i in
-    count_ends (drop a.from a.trail.now) l.i l.invariant (rw (get_or-drop a.from a.trail.now l.i 0) c.loop-i-test.false)
+    let text = c.args.trail.now in
+    let lent = ap (λ i. i.rest.now) c.take_while.ensures.source ∙ c.iter.ensures.rest ∙ from_on c.args.from text in
+    count_from_yields_List c.take_while.result c.count.result c.count.ensures.ran
+    (YieldsList-from_take_while _ (ltb 2) (YieldsList-from_slice (drop c.args.from text) lent) c.take_while.ensures.closure
+    c.take_while.ensures.done (λ x b q k. search (rules, tests)))
+    ∙ length-prefix_len (ltb 2) (drop c.args.from text) ∙ count_prefix (drop c.args.from text)

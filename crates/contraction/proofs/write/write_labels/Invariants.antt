@@ -1,12 +1,7 @@
 -- Each turn passes a vertex by, or writes its label behind those that stand there. Assumes nothing.
-use Prim.Native.Nat.{◌-◌}
-use lib.ListN.{length}
 use Rattle.contraction.proofs.Listed.{Listed}
 use Rattle.contraction.proofs.write.write_labels.Given as goal
 
 abbrev pub invariant-loop-a : goal.invariant-loop-a
 invariant-loop-a l =
     Listed l.k l.keys l.marks l.trail l.initial.buffer l.initial.starts l.initial.lengths l.labels l.at l.from l.a l.buffer l.starts l.lengths
-
-abbrev pub decreases-loop-a : goal.decreases-loop-a
-decreases-loop-a l = length l.marks - l.a
