@@ -6,12 +6,13 @@ use Prim.Native.Nat.{ℕ, suc, ◌+◌, ◌≤◌, ◌<◌}
 use native.Mathlib.Numerals.{add-one}
 use native.Mathlib.Omega.{arith}
 use lib.ListN.{length, set, length-append, length-set}
+use Rattle.std.specs.Prelude.{Option, Some, None}
 use Rattle.kmer.specs.Says.{value_of}
 use Rattle.graph.specs.Table.{keys_of, rank, stored}
 use Rattle.graph.specs.Sightings.{Rule, windows}
 use Rattle.keysort.specs.Rows.{rows}
 use Rattle.adding.specs.Batch.{kmer_at, code_at, note_at, new_rows, Looked, Gathers}
-use Rattle.adding.specs.Says.{Spare, Sees}
+use Rattle.adding.specs.Says.{Spare, Sees, SeesBefore}
 use Rattle.adding.specs.declared.Seen.{Seen}
 use Rattle.adding.proofs.Rowing.{set_more, put_key, put_long, rows_put}
 use Rattle.adding.proofs.Finding.{Finds}
@@ -34,10 +35,10 @@ module _ (K : ℕ) (label ks : List ℕ) (o : ℕ) where
   }
 
 -- After o windows, of which the last one is given.
-pub record Looking (rule : Rule) (K : ℕ) (label ks notes₀ places₀ keys₀ offsets₀ : List ℕ) (o q : ℕ) (last : Seen) (notes places new-keys offsets : List ℕ) :
+pub record Looking (rule : Rule) (K : ℕ) (label ks notes₀ places₀ keys₀ offsets₀ : List ℕ) (o q : ℕ) (last : Option Seen) (notes places new-keys offsets : List ℕ) :
     Type 0 where
   pub few : q ≤ o
-  pub previous : (j : ℕ) → o ≡ suc j → Sees K label j last
+  pub previous : SeesBefore K label o last
   pub long_notes : length notes ≡ length notes₀
   pub long_places : length places ≡ length places₀
   pub long_keys : length new-keys ≡ length keys₀
@@ -49,11 +50,11 @@ module _ (rule : Rule) {K : ℕ} {label : List ℕ} {n : ℕ} {keys notes₀ pla
   abbrev ks : List ℕ
   ks = keys_of n keys
 
-  pub looking_none : {last : Seen} → Looking rule K label ks notes₀ places₀ keys₀ offsets₀ 0 0 last notes₀ places₀ keys₀ offsets₀
+  pub looking_none : Looking rule K label ks notes₀ places₀ keys₀ offsets₀ 0 0 None notes₀ places₀ keys₀ offsets₀
   unfolding new_rows rows
   looking_none = record {
     few = omega arith;
-    previous = λ j e. absurd (omega arith);
+    previous = refl;
     long_notes = refl;
     long_places = refl;
     long_keys = refl;
@@ -65,18 +66,18 @@ module _ (rule : Rule) {K : ℕ} {label : List ℕ} {n : ℕ} {keys notes₀ pla
     };
   }
 
-  module _ {o q : ℕ} {z : Seen} {notes places new-keys offsets : List ℕ}
+  module _ {o q : ℕ} {z : Option Seen} {notes places new-keys offsets : List ℕ}
       (v : Looking rule K label ks notes₀ places₀ keys₀ offsets₀ o q z notes places new-keys offsets) (h : o < windows K label)
       {x : Seen} (sx : Sees K label o x) {code i : ℕ} (ec : code ≡ code_at rule K label o) where
     pub looking_known : Finds ks (value_of x.kmer) i true
-        → Looking rule K label ks notes₀ places₀ keys₀ offsets₀ (o + 1) q x (set notes o code) (set places o i) new-keys offsets
+        → Looking rule K label ks notes₀ places₀ keys₀ offsets₀ (o + 1) q (Some x) (set notes o code) (set places o i) new-keys offsets
     looking_known f =
         let s : stored ks (kmer_at K label o) ≡ true = rw sx.kmer at f.is in
         let r : new_rows K label ks (o + 1) ≡ new_rows K label ks o = rw (add-one o) (rows_known K label ks o s) in
         let g = v.gathers in
         record {
           few = omega (arith, v.few);
-          previous = λ j e. let d : j ≡ o = omega arith in rw d sx;
+          previous = (o, (add-one o, sx));
           long_notes = length-set notes o code ∙ v.long_notes;
           long_places = length-set places o i ∙ v.long_places;
           long_keys = v.long_keys;
@@ -90,7 +91,7 @@ module _ (rule : Rule) {K : ℕ} {label : List ℕ} {n : ℕ} {keys notes₀ pla
         }
 
     pub looking_new : Finds ks (value_of x.kmer) i false → {new-keys' : List ℕ} → new-keys' ≡ put_key new-keys q (value_of x.kmer)
-        → Looking rule K label ks notes₀ places₀ keys₀ offsets₀ (o + 1) (q + 1) x (set notes o (code + 64)) (set places o i) new-keys'
+        → Looking rule K label ks notes₀ places₀ keys₀ offsets₀ (o + 1) (q + 1) (Some x) (set notes o (code + 64)) (set places o i) new-keys'
         (set offsets q o)
     looking_new f {new-keys'} ek =
         let s : stored ks (kmer_at K label o) ≡ false = rw sx.kmer at f.is in
@@ -99,7 +100,7 @@ module _ (rule : Rule) {K : ℕ} {label : List ℕ} {n : ℕ} {keys notes₀ pla
         let g = v.gathers in
         record {
           few = omega (arith, v.few);
-          previous = λ j e. let d : j ≡ o = omega arith in rw d sx;
+          previous = (o, (add-one o, sx));
           long_notes = length-set notes o (code + 64) ∙ v.long_notes;
           long_places = length-set places o i ∙ v.long_places;
           long_keys = ap length ek ∙ put_long new-keys q (value_of x.kmer) ∙ v.long_keys;

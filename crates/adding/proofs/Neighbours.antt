@@ -14,17 +14,18 @@ use Rattle.graph.specs.Sightings.{Rule, window, predecessor, successor}
 use Rattle.adding.specs.Batch.{code_at}
 
 module _ (rule : Rule) (K : ℕ) (label : List ℕ) where
-  pub first_none : (o : ℕ) → o ≡ 0 → 5 ≡ predecessor rule K label o
+  pub first_none : {o : ℕ} → o ≡ 0 → 5 ≡ predecessor rule K label o
   unfolding predecessor
-  first_none zero e = refl
-  first_none (suc o) e = absurd (omega arith)
+  first_none e = rw e
 
   -- By whether the rule leaves it uncounted.
-  pub predecessor_is : (o : ℕ) → (o ≡ 0 → ⊥) → (t : Bool) → ((j : ℕ) → o ≡ suc j → rule K (window K label j) (window K label o) ≡ t)
+  pub predecessor_is : {o j : ℕ} → o ≡ suc j → (t : Bool) → rule K (window K label j) (window K label o) ≡ t
       → cond t 5 (code_of (get_or label (o - 1) 0)) ≡ predecessor rule K label o
   unfolding predecessor
-  predecessor_is zero n t e = absurd (n refl)
-  predecessor_is (suc j) n t e = let d : suc j - 1 ≡ j = omega arith in rw (d, e j refl)
+  predecessor_is {o} {j} q t e =
+      let d : suc j - 1 ≡ j = omega arith in
+      let f = rw q at e in
+      rw (q, d, f)
 
 module _ (K : ℕ) (label : List ℕ) where
   pub next_counts : (o : ℕ) → o + K < length label → code_of (get_or label (o + K) 0) ≡ successor K label o

@@ -111,9 +111,14 @@ abbrev pub skipped : Mode → Seen → Seen → Bool
 skipped mode.SameCanonical x y = eqb (value_of x.kmer) (value_of y.kmer)
 skipped mode.Reversed x y = cond (beq x.straight y.straight) false (eqb (value_of x.kmer) (value_of y.kmer))
 
--- The window before window i, where there is one, and window i.
-pub record Follows (K : ℕ) (label : List ℕ) (i : ℕ) (x y : Seen) : Type 0 where
-  pub previous : (j : ℕ) → i ≡ suc j → Sees K label j x
+-- The window before window i; there is none before the first.
+abbrev pub SeesBefore : ℕ → List ℕ → ℕ → Option Seen → Type 0
+SeesBefore K label i None = i ≡ 0
+SeesBefore K label i (Some x) = (j : ℕ) × ((i ≡ suc j) × Sees K label j x)
+
+-- The window before window i, and window i.
+pub record Follows (K : ℕ) (label : List ℕ) (i : ℕ) (x : Option Seen) (y : Seen) : Type 0 where
+  pub previous : SeesBefore K label i x
   pub here : Sees K label i y
 
 -- A note's two neighbours, each a base or E.

@@ -7,7 +7,7 @@ ghost use Rattle.graph.specs.Sightings.{windows};
 ghost use Rattle.adding.specs.Batch.{Gathers};
 ghost use Rattle.adding.specs.Says.{rule_of, Spare};
 
-use super::{Mode, Seen, windows};
+use super::{Mode, windows};
 use kmer::Kmer;
 
 // A k-mer's words put into a slice.
@@ -50,10 +50,7 @@ fn look_up(
     ensures { Gathers (rule_of mode) k label.now (keys_of n keys.now) (windows k label.now) result notes.new places.new new_keys.new offsets.new }
 {
     let mut new = 0;
-    let mut previous = Seen {
-        kmer: Kmer::zero(),
-        straight: true,
-    };
+    let mut previous = None;
     let end = label.len() - k + 1;
     for o in 0..end {
         let seen = windows::see(k, label, o);
@@ -69,7 +66,7 @@ fn look_up(
         };
         notes[o] = note;
         places[o] = place as u32;
-        previous = seen;
+        previous = Some(seen);
     }
     new
 }

@@ -34,14 +34,21 @@ fn skips(mode: Mode, previous: Seen, here: Seen) -> bool
 }
 
 // The base before window o; E where there is none, or where it is left uncounted.
-fn before_of(mode: Mode, k: usize, label: &[u8], o: usize, previous: Seen, here: Seen) -> u8
+fn before_of(
+    mode: Mode,
+    k: usize,
+    label: &[u8],
+    o: usize,
+    previous: Option<Seen>,
+    here: Seen,
+) -> u8
     requires { Given k label.now × (o + k ≤ length label.now) × Follows k label.now o previous here }
     ensures { result ≡ predecessor (rule_of mode) k label.now o }
 {
-    if o == 0 || skips(mode, previous, here) {
-        5
-    } else {
-        dna::valid_ascii_base_bits(label[o - 1])
+    match previous {
+        None => 5,
+        Some(previous) if skips(mode, previous, here) => 5,
+        Some(_) => dna::valid_ascii_base_bits(label[o - 1]),
     }
 }
 
@@ -69,7 +76,7 @@ pub(crate) fn code_of(
     k: usize,
     label: &[u8],
     o: usize,
-    previous: Seen,
+    previous: Option<Seen>,
     seen: Seen,
 ) -> u8
     requires { Given k label.now × (o + k ≤ length label.now) × Follows k label.now o previous seen }
