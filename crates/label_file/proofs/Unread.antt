@@ -75,3 +75,7 @@ module _ {file : List ℕ} {i at : ℕ} {rest : List (List ℕ)} (u : Unread fil
 
       pass : labelled (drop at file) ≡ true → Next file i at (two file (at + 2)) rest
       pass t = passed t _ refl (sym (from_next u.place left t) ∙ u.hold)
+
+-- A sound file has its whole first record.
+pub sound_long : (file : List ℕ) → Sound file → 7 ≤ length file
+sound_long file s = (unread_all file s).place.within

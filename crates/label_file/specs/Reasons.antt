@@ -1,6 +1,6 @@
 -- The numbers of the refusals, as README.md has them. Assumes nothing.
-use Rattle.std.specs.Prelude.{ℕ, ◌≡◌, List}
-use Rattle.dna.specs.Answer.{Answer, refuses}
+use Rattle.std.specs.Prelude.{ℕ, ◌≡◌, List, []}
+use Rattle.dna.specs.Answer.{Answer, gives, refuses}
 use Rattle.label_file.specs.declared.refusal.Reason.{Reason}
 use Rattle.label_file.specs.declared.refusal.Reason.TheVariants as reason
 
@@ -21,6 +21,11 @@ number_of reason.WrongCutoff = 15
 number_of reason.EvenK = 16
 number_of reason.NoList = 17
 
+-- The values beside a refusal.
+abbrev pub besides : {A : Type 0} → Answer A → List ℕ
+besides (gives a) = []
+besides (refuses r vs) = vs
+
 -- A call refuses for a reason: the number is the reason's.
 abbrev pub Numbers : {A : Type 0} → Answer A → Reason → Type 0
-Numbers a r = (vs : List ℕ) × (a ≡ refuses (number_of r) vs)
+Numbers a r = a ≡ refuses (number_of r) (besides a)

@@ -11,7 +11,7 @@ use Rattle.judging.specs.declared.Broken.{Broken}
 use Rattle.label_file.specs.LabelFile.{damaged, holds, k_in, cutoff_in, file_of, labels_of}
 use Rattle.label_file.specs.Output.{Buffers, Left, decimal, refusal, refused}
 use Rattle.label_file.specs.Judged.{verdict_line}
-use Rattle.label_file.specs.Reasons.{number_of}
+use Rattle.label_file.specs.Reasons.{number_of, Numbers}
 use Rattle.label_file.specs.declared.form.Head.{Head}
 use Rattle.label_file.specs.declared.list.Taken.{Taken}
 use Rattle.label_file.specs.declared.refusal.Reason.{Reason}
@@ -71,8 +71,7 @@ pub record Indexes (file : List ℕ) (count : ℕ) (starts lengths : List ℕ) :
 -- m + 1.
 abbrev pub taking_says : Result Taken Refusal → Several → Type 0
 taking_says (Ok t) s = ((e : Edges) × (s.answer ≡ gives e)) × (t.vertices ≡ s.stored) × (t.records ≡ suc s.labels)
-taking_says (Err e) s =
-    ((vs : List ℕ) × (s.answer ≡ refuses (number_of e.reason) vs)) × (e.at ≡ suc s.labels)
+taking_says (Err e) s = Numbers s.answer e.reason × (e.at ≡ suc s.labels)
 
 -- Labels added: what is said of them, and the table's slices at exit.
 pub record Takes (r : Result Taken Refusal) (keys counts : List ℕ) (s : Several) : Type 0 where

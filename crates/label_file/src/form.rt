@@ -61,6 +61,7 @@ fn check_form(file: &[u8]) -> Result<(), Refusal>
 }
 
 // The form, then K.
+#[tactic(auto, using(crate::proofs::Unread::sound_long))]
 pub(crate) fn read_head(file: &[u8]) -> Result<Head, Refusal>
     ensures { head_says result file.now }
 {

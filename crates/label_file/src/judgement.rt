@@ -9,7 +9,7 @@ use super::form::Head;
 use super::list::Taken;
 use super::refusal::{Reason, Refusal};
 use super::{form, line, list};
-use dna::NoRoom;
+use dna::{NoRoom, copy};
 use judging::{Broken, JudgeError};
 use state::EdgeKind;
 
@@ -28,13 +28,24 @@ fn judge_file(
     let Head { k, cutoff } = form::read_head(file)?;
     let Taken { vertices, records } = list::take_labels(file, k, keys, counts)?;
     let judged = judging::judge(
-        EdgeKind::Counted, k, cutoff, vertices, keys, counts, list, marks,
+        EdgeKind::Counted,
+        k,
+        cutoff,
+        vertices,
+        keys,
+        counts,
+        list,
+        marks,
     );
     match judged {
         Ok(verdict) => Ok(verdict),
         Err(error) => Err(Refusal {
             reason: Reason::from(error),
-            at: if error == JudgeError::EvenK { 0 } else { records },
+            at: if error == JudgeError::EvenK {
+                0
+            } else {
+                records
+            },
         }),
     }
 }
@@ -52,7 +63,7 @@ pub fn judge_list(
         (judgement (lent_few keys.old counts.old marks.old text.old) file.now list.now) }
 {
     match judge_file(file, list, keys, counts, marks) {
-        Ok(None) => line::put_line(b"yes\n", text),
+        Ok(None) => copy(b"yes\n", text),
         Ok(Some(Broken { rule, label })) => line::tell(b"no ", usize::from(rule), label, text),
         Err(why) => line::refuse(why, text),
     }

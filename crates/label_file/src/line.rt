@@ -47,21 +47,19 @@ fn make_line(word: &[u8], first: usize, second: usize, line: &mut [u8]) -> usize
     start
 }
 
-// A line in the text, where it fits.
-pub(crate) fn put_line(line: &[u8], text: &mut [u8]) -> Result<usize, NoRoom>
-    ensures { Fills result text.new (fill 11 line.now text.old) }
-{
-    copy(line, text)
-}
-
 // A word, two numbers and a newline, in the text.
-pub(crate) fn tell(word: &[u8], first: usize, second: usize, text: &mut [u8]) -> Result<usize, NoRoom>
+pub(crate) fn tell(
+    word: &[u8],
+    first: usize,
+    second: usize,
+    text: &mut [u8],
+) -> Result<usize, NoRoom>
     requires { length word.now ≤ 22 }
     ensures { Fills result text.new (fill 11 (word.now ++ numbers first second) text.old) }
 {
     let mut line = [0u8; 64];
     let start = make_line(word, first, second, &mut line);
-    put_line(&line[start..], text)
+    copy(&line[start..], text)
 }
 
 // A refusal's number and its record, in the text.

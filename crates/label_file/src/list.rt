@@ -142,9 +142,7 @@ pub fn list_unitigs(
     ensures { Lists result (lent keys.new counts.new labels.new starts.new lengths.new marks.new text.new)
         (output (lent keys.old counts.old labels.old starts.old lengths.old marks.old text.old) file.now) }
 {
-    match list_file(
-        file, keys, counts, labels, starts, lengths, marks, text,
-    ) {
+    match list_file(file, keys, counts, labels, starts, lengths, marks, text) {
         Ok(size) => Ok(size),
         Err(why) => line::refuse(why, text),
     }

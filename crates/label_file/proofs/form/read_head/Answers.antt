@@ -1,42 +1,31 @@
 -- The form, then K. Assumes nothing.
+use mathlib.Core.Path.{◌≡◌, ◌∙◌}
+use mathlib.Core.Bool.{true, false}
 use native.Mathlib.Omega.{arith}
-use lib.ListN.{get_or}
-use Rattle.label_file.proofs.Whole.{head_damaged, head_bad_K, head_sound, says_sound, says_long, no_K, past_K}
+use Rattle.std.proofs.Common.{rules, tests}
+use Rattle.std.proofs.lemmas.Bool.Decides.{nat_tests}
+use Rattle.std.proofs.lemmas.Result.{err_from_is_err_and}
+use Rattle.kmer.specs.Kmer.{ok_k}
+use Rattle.label_file.specs.LabelFile.{k_in, cutoff_in}
+use Rattle.label_file.proofs.Heads.{on_damaged, on_bad_K, on_sound}
 use Rattle.label_file.proofs.form.read_head.Goals as goal
 
-pub bounds-file-2 : goal.bounds-file-2
-bounds-file-2 c =
+pub returns-in_err-check_form : goal.returns-in_err-check_form
+returns-in_err-check_form c =
+    let said = c.in_err-check_form.ensures in
+    let e = err_from_is_err_and c.from_residual.result c.from_residual.ensures.1 in
+    rw (e.1, e.2) (λ doing b. rw said.0 (on_damaged c.args.file.now doing b said.1))
+
+pub returns-then-not-contains : goal.returns-then-not-contains
+returns-then-not-contains c = λ doing b.
     let file = c.args.file.now in
-    omega (arith, says_long file _ c.form.ensures c.in-Sound.is)
+    let bad : ok_k (k_in file) ≡ false = search (rules, tests) in
+    on_bad_K file doing b c.in_ok-check_form.ensures bad
 
-pub overflow_cast-k : goal.overflow_cast-k
-overflow_cast-k c = omega (arith, c.type_inv.file 2)
-
-pub returns-then-k-lt1 : goal.returns-then-k-lt1
-returns-then-k-lt1 c =
+pub returns : goal.returns
+returns c =
     let file = c.args.file.now in
-    head_bad_K file (says_sound file _ c.form.ensures c.in-Sound.is) (no_K (get_or file 2 0) c.if-k-lt1.true)
-
-pub returns-then-k-gt63 : goal.returns-then-k-gt63
-returns-then-k-gt63 c =
-    let file = c.args.file.now in
-    head_bad_K file (says_sound file _ c.form.ensures c.in-Sound.is) (past_K (get_or file 2 0) c.if-k-gt63.true)
-
-pub two_bytes-requires : goal.two_bytes-requires
-two_bytes-requires c =
-    let file = c.args.file.now in
-    omega (arith, says_long file _ c.form.ensures c.in-Sound.is)
-
-pub two_bytes-requires-in-Sound : goal.two_bytes-requires-in-Sound
-two_bytes-requires-in-Sound c =
-    let file = c.args.file.now in
-    omega (arith, says_long file _ c.form.ensures c.in-Sound.is)
-
-pub returns-in-Damaged : goal.returns-in-Damaged
-returns-in-Damaged c = head_damaged c.args.file.now _ _ c.form.ensures c.in-Damaged.is
-
-pub returns-else-k-gt63 : goal.returns-else-k-gt63
-returns-else-k-gt63 c =
-    let file = c.args.file.now in
-    head_sound file (says_sound file _ c.form.ensures c.in-Sound.is) c.if-k-lt1.false c.if-k-gt63.false _ _
-    c.two_bytes.ensures.0 c.two_bytes-in-Sound.ensures.0
+    let s = c.in_ok-check_form.ensures in
+    let good : ok_k (k_in file) ≡ true = search (rules, tests) in
+    let e : c.from_le_bytes-cutoff.result ≡ cutoff_in file = omega arith in
+    (s, λ doing b. rw (e, c.from-k.ensures) (on_sound file doing b s good))
