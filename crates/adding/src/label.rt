@@ -81,7 +81,9 @@ fn add_with(
     Ok(Addition { edges, stored })
 }
 
-// Added by slices for so many windows, and for the two words of the k-mer of each.
+// Added by slices for so many windows, and for the two words of the k-mer of each. It is not inlined, so that the stack of a call for
+// few windows does not hold the slices for many.
+#[inline(never)]
 fn add_in<const WINDOWS: usize, const WORDS: usize>(
     kind: EdgeKind,
     mode: Mode,

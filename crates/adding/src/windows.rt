@@ -34,14 +34,7 @@ fn skips(mode: Mode, previous: Seen, here: Seen) -> bool
 }
 
 // The base before window o; E where there is none, or where it is left uncounted.
-fn before_of(
-    mode: Mode,
-    k: usize,
-    label: &[u8],
-    o: usize,
-    previous: Option<Seen>,
-    here: Seen,
-) -> u8
+fn before_of(mode: Mode, k: usize, label: &[u8], o: usize, previous: Option<Seen>, here: Seen) -> u8
     requires { Given k label.now × (o + k ≤ length label.now) × Follows k label.now o previous here }
     ensures { result ≡ predecessor (rule_of mode) k label.now o }
 {

@@ -17,7 +17,7 @@ loop-o-preserved c =
     let h : o < m = omega (arith, length-take m notes, c.loop-o-test.true) in
     let e = get_or-take m notes o 0 h in
     elim c.if-note-lt64.branch [
-      then-note-lt64 w ↦ rw w.counts-is
+      | then-note-lt64 w ↦ rw w.counts-is
           (raising_known c.requires c.loop-o.invariant h (rw e at w.if-note-lt64.true) (rw e at w.counted.ensures))
       | else-note-lt64 w ↦ rw w.counts-is (raising_new c.requires c.loop-o.invariant h (rw e at w.if-note-lt64.false))
     ]

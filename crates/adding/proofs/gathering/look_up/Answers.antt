@@ -25,7 +25,7 @@ overflow_cast-places c =
     let x = value_of c.see-seen.result.kmer in
     let y = c.requires in
     elim c.match-find.branch [
-      in-Ok w ↦ rw w.note-is
+      | in-Ok w ↦ rw w.note-is
           (record { fits = omega (arith, finds_below n keys (finds_ok k n keys cells x y.fits c.find.ensures w.in-Ok.is), y.few) })
       | in-Err w ↦ rw w.note-is
           (record { fits = omega (arith, finds_below n keys (finds_err k n keys cells x y.fits c.find.ensures w.in-Err.is), y.few) })
@@ -42,7 +42,7 @@ loop-o-preserved c =
     let y = c.requires in
     let v = c.loop-o.invariant in
     elim c.match-find.branch [
-      in-Ok w ↦ rw (w.new-is, w.note-is, w.new_keys-is, w.offsets-is)
+      | in-Ok w ↦ rw (w.new-is, w.note-is, w.new_keys-is, w.offsets-is)
           (looking_known rule y v (omega (arith, y.given.long, c.loop-o-test.true)) c.see-seen.ensures c.code_of-code.ensures
           (finds_ok k n keys cells x y.fits c.find.ensures w.in-Ok.is))
       | in-Err w ↦ rw (w.new-is, w.note-is, w.new_keys-is, w.offsets-is)
