@@ -8,7 +8,6 @@ use Prim.Native.Nat.{ℕ, ◌+◌, ◌-◌, ◌≤◌, ◌<◌, ◌%◌, min, ma
 use native.Mathlib.Nat.{not-suc-le-zero, mod-lt, mod-eq_of_lt, mod-mod, mod-add-mod}
 use native.Mathlib.Decide.{dec_lt}
 use native.Mathlib.Omega.{arith}
-use borrow.Author.Count.{below_more}
 use lib.ListN.{length, get_or}
 use lib.Seq.{ext_get_or}
 use Rattle.lemmas.proofs.Tests.{never}
@@ -84,16 +83,9 @@ pub record Chase (s : List ℕ) (i j k : ℕ) : Type 0 where
   pub back : least_start s < j → least_start s ≡ i
   pub same : (t : ℕ) → t < k → at s (i + t) ≡ at s (j + t)
 
-pub chase_start : (s : List ℕ) → Chase s 0 1 0
-chase_start s = record { apart = λ e. omega arith; front = λ h. absurd (omega arith); back = λ h. omega arith; same = λ t h. absurd (not-suc-le-zero h) }
-
 -- The two starts play the same part.
 pub chase_turn : {s : List ℕ} {i j k : ℕ} → Chase s i j k → Chase s j i k
 chase_turn c = record { apart = λ e. c.apart (sym e); front = c.back; back = c.front; same = λ t h. sym (c.same t h) }
-
--- One more byte is alike.
-pub chase_on : (s : List ℕ) (i j k : ℕ) → Chase s i j k → at s (i + k) ≡ at s (j + k) → Chase s i j (k + 1)
-chase_on s i j k c e = record { apart = c.apart; front = c.front; back = c.back; same = below_more (λ t. at s (i + t) ≡ at s (j + t)) k c.same e }
 
 -- From i on the text is the larger: i moves past what was compared, and past j.
 pub chase_skip : (s : List ℕ) (i j k : ℕ) → Chase s i j k → 1 < length s → k < length s → at s (j + k) < at s (i + k)

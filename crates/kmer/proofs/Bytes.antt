@@ -35,14 +35,7 @@ bytes_cat n (suc d) x =
 
 eight_bytes : (x : ℕ) → bytes_in 8 x ≡ to_be_bytes w64 x
 unfolding bytes_in
-eight_bytes x =
-    let e₂ : x / 256 / 256 ≡ x / 256 ^ 2 = omega arith in
-    let e₃ : x / 256 ^ 2 / 256 ≡ x / 256 ^ 3 = omega arith in
-    let e₄ : x / 256 ^ 3 / 256 ≡ x / 256 ^ 4 = omega arith in
-    let e₅ : x / 256 ^ 4 / 256 ≡ x / 256 ^ 5 = omega arith in
-    let e₆ : x / 256 ^ 5 / 256 ≡ x / 256 ^ 6 = omega arith in
-    let e₇ : x / 256 ^ 6 / 256 ≡ x / 256 ^ 7 = omega arith in
-    rw (e₂, e₃, e₄, e₅, e₆, e₇)
+eight_bytes x = grind arith
 
 -- Each number of a list is a byte.
 abbrev Each : List ℕ → Type 0

@@ -1,13 +1,12 @@
--- The order of two words, when they are the same, and the canonical form by the order. Assumes nothing.
-use mathlib.Core.Path.{◌≡◌, sym, ◌∙◌}
+-- The order of two words, and the canonical form by the order. Assumes nothing.
+use mathlib.Core.Path.{◌≡◌, sym}
 use mathlib.Core.Bool.{true, false, not}
 use mathlib.Core.Logic.{⊎_elim}
 use Prim.Native.Nat.{ℕ, ◌^◌, ◌<◌}
-use native.Mathlib.Decide.{ℕ_discrete}
 use native.Mathlib.Omega.{arith}
 use lib.Arith.{lt_of_le-ne}
-use lib.Dec.{ltb, eqb}
-use borrow.Author.Tests.{lt-ltb, le-ltb, le-leb, lt-leb, ltb-true, ltb-false, eq-eqb, ne_eqb}
+use lib.Dec.{ltb}
+use borrow.Author.Tests.{lt-ltb, le-ltb, le-leb, lt-leb, ltb-true, ltb-false}
 use Rattle.lemmas.proofs.Numbers.{lt_or_ge, same_test}
 use Rattle.kmer.specs.Kmer.{joined, rc, canon, is_canon}
 
@@ -18,16 +17,6 @@ module _ (a₀ a₁ b₀ b₁ : ℕ) where
   pub less_high : a₀ < 2 ^ 64 → b₀ < 2 ^ 64 → (a₁ ≡ b₁ → ⊥) → ltb a₁ b₁ ≡ ltb (joined a₀ a₁) (joined b₀ b₁)
   less_high ha hb ne =
       same_test a₁ b₁ (joined a₀ a₁) (joined b₀ b₁) (λ l. omega arith) (λ l. omega (arith, lt_of_le-ne l (λ e. ne (sym e))))
-
-  pub same_high : a₀ ≡ b₀ → eqb a₁ b₁ ≡ eqb (joined a₀ a₁) (joined b₀ b₁)
-  same_high e = go (ℕ_discrete a₁ b₁)
-    where
-      go : Dec (a₁ ≡ b₁) → eqb a₁ b₁ ≡ eqb (joined a₀ a₁) (joined b₀ b₁)
-      go (yes f) = eq-eqb a₁ b₁ f ∙ sym (eq-eqb (joined a₀ a₁) (joined b₀ b₁) (omega arith))
-      go (no n) = ne_eqb a₁ b₁ n ∙ sym (ne_eqb (joined a₀ a₁) (joined b₀ b₁) (λ f. n (omega arith)))
-
-  pub differ_low : a₀ < 2 ^ 64 → b₀ < 2 ^ 64 → (a₀ ≡ b₀ → ⊥) → false ≡ eqb (joined a₀ a₁) (joined b₀ b₁)
-  differ_low ha hb n = sym (ne_eqb (joined a₀ a₁) (joined b₀ b₁) (λ f. n (omega arith)))
 
 module _ (K x : ℕ) where
   pub canon_turned : ltb (rc K x) x ≡ true → rc K x ≡ canon K x

@@ -12,8 +12,6 @@ use Rattle.dna.specs.Letters.{code_of, valid_bits}
 use Rattle.dna.proofs.Letters.{code_letter, valid_code, valid_small}
 use Rattle.kmer.specs.Kmer.{onto, packed}
 use Rattle.kmer.specs.Packing.{base_in, valid_packed}
-use Rattle.kmer.specs.Says.{kmer_of}
-use Rattle.kmer.proofs.Wide.{two_words}
 use Rattle.kmer.proofs.Windows.{Bases, packed_append, packed_lt}
 
 code_in : (b : ℕ) → code_of (base_in b) ≡ valid_bits b
@@ -62,10 +60,3 @@ word_more s i l h =
     ap valid_packed more ∙ valid_append (take i s) (get_or s i 0 ∷ []) ∙ omega (arith, valid_one (get_or s i 0)) in
     let n : length (take (i + 1) s) ≡ i + 1 = length-take-le (i + 1) s (omega arith) in
     mod-eq_of_lt (rw e at (word_lt (take (i + 1) s) (omega arith))) ∙ sym e
-
--- They all stand in the low word.
-pub pack_low : (k : ℕ) (s : List ℕ) → k ≤ 32 → k ≤ length s →
-    record { words = valid_packed (take k s) ∷ 0 ∷ [] } ≡ kmer_of (valid_packed (take k s))
-pack_low k s h l =
-    let n : length (take k s) ≡ k = length-take-le k s l in
-    sym (two_words (valid_packed (take k s)) (valid_packed (take k s)) 0 (omega arith) (word_lt (take k s) (omega arith)))

@@ -1,13 +1,15 @@
 -- A step of the swap network, `((y & e) << k) | ((y >> k) & e)` with e the k low bits of every field of k + k bits, exchanges
--- the halves of each field; five such steps reverse the 32 base-4 digits of a word. Assumes nothing.
+-- the halves of each field; two such steps reverse the four base-4 digits of each byte of a word. Assumes nothing.
 use mathlib.Core.Path.{◌≡◌, refl, sym, ap, ap₂, ◌∙◌, subst}
 use Prim.Native.Nat.{ℕ, zero, suc, ◌+◌, ◌*◌, ◌/◌, ◌%◌, ◌^◌, ◌<◌, ◌≤◌}
 use native.Mathlib.Nat.{mod-lt, mod-one, mod-eq_of_lt, add-mul, mul_assoc, mul_comm, zero-mul}
 use native.Mathlib.Nat.{lt_of_lt_of_le, lt_of_le_of_lt, le-add_right, mul-le-mul_right}
 use native.Mathlib.Omega.{arith}
-use lib.Arith.{digits_mod}
+use lib.Arith.{digits_mod, digits_div}
 use lib.Pow.{pow_pos, pow_mono, shr-shr, shl_lt, mod-pow-add}
 use lib.Bits.{bit_and, bit_or, and_zero_r, and_le_r, or_block, or_shifted}
+use mir.Syntax.{w64}
+use Rattle.std.specs.Int.{swap_bytes}
 use Rattle.kmer.proofs.Wide.{four}
 use Rattle.kmer.proofs.Fields.{lows, low_field, shift_swap, twice, above_two, second_of_two}
 use Rattle.kmer.proofs.Turned.{turned, turned_cat, turned_lt, same, same_lt}
@@ -55,7 +57,7 @@ step_is mask k m y e h =
 -- ---- fields of d digits, each turned round
 
 -- In each of the m low fields of d digits, the digits in reverse order.
-flips : ℕ → ℕ → ℕ → ℕ
+unfoldable pub flips : ℕ → ℕ → ℕ → ℕ
 flips d zero x = zero
 flips d (suc m) x = flips d m (x / 2 ^ (d + d)) * 2 ^ (d + d) + turned same d x
 
@@ -92,12 +94,36 @@ swaps_flips d (suc m) x =
     ∙ ap (λ (n : ℕ). flips k m (x / 2 ^ (k + k)) * 2 ^ (k + k) + n)
     (sym (turned_cat same d d x ∙ ap₂ (λ (p q : ℕ). o₀ * p + turned same d (x / q)) (four_double d) (four_double d)))
 
--- So five steps, from fields of one digit to the field of all 32, turn a word round.
-pub flipped : (x : ℕ) → x < 2 ^ 64 → swaps 32 1 (swaps 16 2 (swaps 8 4 (swaps 4 8 (swaps 2 16 x)))) ≡ turned same 32 x
+-- So two steps, from fields of one digit to fields of four: each byte is turned round.
+pub flipped : (x : ℕ) → x < 2 ^ 64 → swaps 4 8 (swaps 2 16 x) ≡ flips 4 8 x
 unfolding flips
 flipped x h =
-    let s₁ : swaps 2 16 x ≡ flips 2 16 x = ap (swaps 2 16) (sym (flips_one 32 x ∙ mod-eq_of_lt h)) ∙ swaps_flips 1 16 x in
-    let s₂ : swaps 4 8 (swaps 2 16 x) ≡ flips 4 8 x = ap (swaps 4 8) s₁ ∙ swaps_flips 2 8 x in
-    let s₃ : swaps 8 4 (swaps 4 8 (swaps 2 16 x)) ≡ flips 8 4 x = ap (swaps 8 4) s₂ ∙ swaps_flips 4 4 x in
-    let s₄ : swaps 16 2 (swaps 8 4 (swaps 4 8 (swaps 2 16 x))) ≡ flips 16 2 x = ap (swaps 16 2) s₃ ∙ swaps_flips 8 2 x in
-    ap (swaps 32 1) s₄ ∙ swaps_flips 16 1 x ∙ omega arith
+    let s : swaps 2 16 x ≡ flips 2 16 x = ap (swaps 2 16) (sym (flips_one 32 x ∙ mod-eq_of_lt h)) ∙ swaps_flips 1 16 x in
+    ap (swaps 4 8) s ∙ swaps_flips 2 8 x
+
+-- ---- bytes in reverse order
+
+-- The n low bytes, the lowest first.
+turns : ℕ → ℕ → ℕ
+turns zero y = 0
+turns (suc n) y = y % 2 ^ 8 * 2 ^ (8 * n) + turns n (y / 2 ^ 8)
+
+turns_bytes : (y : ℕ) → swap_bytes w64 y ≡ turns 8 y
+unfolding turns
+turns_bytes y = omega arith
+
+-- Bytes that are each turned round, and then turned round together: all digits are.
+turns_flips : (m x : ℕ) → turns m (flips 4 m x) ≡ turned same (4 * m) x
+unfolding turns flips turned
+turns_flips zero x = refl
+turns_flips (suc m) x =
+    let t : turned same 4 x < 2 ^ 8 = turned_below 4 x in
+    let e : 4 * suc m ≡ 4 + 4 * m = omega arith in
+    let p : 2 ^ (8 * m) ≡ 4 ^ (4 * m) = sym (four (4 * m) ∙ ap (λ (n : ℕ). 2 ^ n) (omega arith)) in
+    ap₂ (λ (a b : ℕ). a * 2 ^ (8 * m) + turns m b) (digits_mod (flips 4 m (x / 2 ^ 8)) t) (digits_div (flips 4 m (x / 2 ^ 8)) t)
+    ∙ ap₂ (λ (a b : ℕ). turned same 4 x * a + b) p (turns_flips m (x / 2 ^ 8))
+    ∙ sym (ap (λ (n : ℕ). turned same n x) e ∙ turned_cat same 4 (4 * m) x)
+
+-- Turning round the bytes of a word whose bytes are turned round turns the word round.
+pub bytes_flipped : (x : ℕ) → swap_bytes w64 (flips 4 8 x) ≡ turned same 32 x
+bytes_flipped x = turns_bytes (flips 4 8 x) ∙ turns_flips 8 x

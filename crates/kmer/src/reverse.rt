@@ -6,16 +6,14 @@ ghost use Rattle.kmer.specs.Says.{value_of, kmer_of, Answers};
 
 use super::{Kmer, KmerError, verdict};
 
-// The 32 bases of a word, the last first: neighbours change places, then pairs, fours, eights and halves. The contract says it of the
+// The 32 bases of a word, the last first: neighbours change places, then pairs, then bytes. The contract says it of the
 // reverse complement, which is what `!` makes of the result.
 fn flip(word: u64) -> u64
     ensures { result + rc 32 word + 1 ≡ 2 ^ 64 }
 {
-    let a = ((word & 0x3333_3333_3333_3333) << 2) | ((word >> 2) & 0x3333_3333_3333_3333);
-    let b = ((a & 0x0f0f_0f0f_0f0f_0f0f) << 4) | ((a >> 4) & 0x0f0f_0f0f_0f0f_0f0f);
-    let c = ((b & 0x00ff_00ff_00ff_00ff) << 8) | ((b >> 8) & 0x00ff_00ff_00ff_00ff);
-    let d = ((c & 0x0000_ffff_0000_ffff) << 16) | ((c >> 16) & 0x0000_ffff_0000_ffff);
-    ((d & 0x0000_0000_ffff_ffff) << 32) | ((d >> 32) & 0x0000_0000_ffff_ffff)
+    let ones = ((word & 0x3333_3333_3333_3333) << 2) | ((word >> 2) & 0x3333_3333_3333_3333);
+    let twos = ((ones & 0x0f0f_0f0f_0f0f_0f0f) << 4) | ((ones >> 4) & 0x0f0f_0f0f_0f0f_0f0f);
+    twos.swap_bytes()
 }
 
 // Both words flipped and complemented, then moved down by the bits that K leaves free.

@@ -6,7 +6,7 @@ use lib.Dec.{ltb}
 use lib.ListN.{length, get_or}
 use mir.Syntax.{w64}
 use mir.Val.{Fits}
-use Rattle.kmer.specs.Kmer.{rc, canon}
+use Rattle.kmer.specs.Kmer.{rc}
 use Rattle.kmer.specs.Says.{value_of, kmer_of}
 use Rattle.kmer.proofs.Wide.{value_back, kmer_back}
 use Rattle.kmer.proofs.Orders.{canon_turned, canon_same}

@@ -7,7 +7,6 @@ use lib.ListN.{take}
 use Rattle.dna.specs.Answer.{gives}
 use Rattle.dna.specs.Letters.{first_bad}
 use Rattle.kmer.specs.Kmer.{packed}
-use Rattle.kmer.specs.Packing.{valid_packed}
 use Rattle.kmer.specs.Calls.{pack_bases, with_letters, pack_call}
 use Rattle.kmer.proofs.Testing.{no_bad_bases}
 use Rattle.kmer.proofs.Packing.{valid_packed_lem}

@@ -1,10 +1,10 @@
 -- The reverse complement is not smaller. Assumes nothing.
-use mathlib.Core.Path.{◌≡◌, ap, ◌∙◌}
+use mathlib.Core.Path.{ap, ◌∙◌}
 use mathlib.Core.Bool.{not}
 use Prim.Native.Nat.{ℕ}
 use native.Mathlib.Omega.{arith}
 use lib.Dec.{ltb}
-use Rattle.kmer.specs.Kmer.{rc, is_canon}
+use Rattle.kmer.specs.Kmer.{rc}
 use Rattle.kmer.specs.Says.{value_of}
 use Rattle.kmer.proofs.Wide.{value_back}
 use Rattle.kmer.proofs.Orders.{canon_test}

@@ -13,9 +13,6 @@ loop-i-init c =
           (omega arith) (omega arith),
     )
 
-pub eight-y-requires : goal.eight-y-requires
-eight-y-requires c = omega arith
-
 pub loop-i-preserved : goal.loop-i-preserved
 loop-i-preserved c =
     let l = c.loop-i in

@@ -1,5 +1,5 @@
 -- The first letter that is no base is the first bad one. Assumes nothing.
-use mathlib.Core.Path.{refl, sym, ap, ◌∙◌}
+use mathlib.Core.Path.{sym, ap, ◌∙◌}
 use native.Mathlib.Omega.{arith}
 use Rattle.kmer.specs.Calls.{pack_bases}
 use Rattle.kmer.proofs.Testing.{bad_behind, bad_here, bad_nowhere}

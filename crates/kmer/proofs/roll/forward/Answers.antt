@@ -8,11 +8,6 @@ use Rattle.kmer.proofs.Moves.{rolled_up}
 use borrow.Author.Rules.{rules}
 use Rattle.kmer.proofs.roll.forward.Goals as goal
 
-pub push_low-requires-2 : goal.push_low-requires-2
-push_low-requires-2 c =
-    let f : Fits w64 (get_or c.args.x.words 0 0) = search rules in
-    omega arith
-
 pub returns : goal.returns
 returns c =
     let a = c.args in
