@@ -3,23 +3,17 @@
 // document 02's rules give over its words; and R22 for the parts of 2^40, of which it answers some bits.
 #![tactic(auto)]
 
-use colours::{
-    ColorAnswer, ColorCoordinate, ColorsAnswer, CoordinateAnswer, PartAnswer, RunAnswer,
-    RunsAnswer, UnitigColor, VertexOffset,
-};
+use colours::{ColorCoordinate, ColorError, OutOfRange, UnitigColor, VertexOffset};
 use std::io;
 
 // What stands in a cell that nothing was written to.
 const FREE: u64 = 0xeeee;
 
-fn number(rt: &impl Print, n: u64) -> io::Result<()> {
-    print!(rt; " {n}")
-}
-
-fn part(rt: &impl Print, answer: PartAnswer) -> io::Result<()> {
+// A part of a coordinate, or the refusal.
+fn part(rt: &impl Print, answer: Result<u64, OutOfRange>) -> io::Result<()> {
     match answer {
-        PartAnswer::Is(n) => number(rt, n),
-        PartAnswer::OutOfRange => print!(rt; " R22"),
+        Ok(n) => print!(rt; " {n}"),
+        Err(OutOfRange) => print!(rt; " R22"),
     }
 }
 
@@ -30,15 +24,14 @@ fn parts(rt: &impl Print, c: ColorCoordinate) -> io::Result<()> {
     if c.is_in_process() {
         print!(rt; " in process")?;
     }
-    Ok(())
+    println!(rt;)
 }
 
-fn coordinate(rt: &impl Print, answer: CoordinateAnswer) -> io::Result<()> {
+fn coordinate(rt: &impl Print, answer: Result<ColorCoordinate, OutOfRange>) -> io::Result<()> {
     match answer {
-        CoordinateAnswer::Made(c) => parts(rt, c)?,
-        CoordinateAnswer::OutOfRange => print!(rt; " R22")?,
+        Ok(c) => parts(rt, c),
+        Err(OutOfRange) => println!(rt; " R22"),
     }
-    println!(rt;)
 }
 
 fn discovered(rt: &impl Print, worker: u64, index: u64) -> io::Result<()> {
@@ -54,53 +47,44 @@ fn from_u40(rt: &impl Print, value: u64) -> io::Result<()> {
 // A coordinate of any word.
 fn held(rt: &impl Print, value: u64) -> io::Result<()> {
     print!(rt; "held {value}:")?;
-    parts(rt, ColorCoordinate(value))?;
-    println!(rt;)
+    parts(rt, ColorCoordinate(value))
 }
 
 fn run(rt: &impl Print, offset: u32, value: u64) -> io::Result<()> {
     print!(rt; "run {offset} {value}:")?;
     match UnitigColor::new(VertexOffset(offset), ColorCoordinate(value)) {
-        RunAnswer::Packed(r) => {
-            let at = r.offset();
-            let c = r.coordinate();
-            println!(rt; " {} {} {}", r.raw(), at.0, c.0)
-        }
-        RunAnswer::OutOfRange => println!(rt; " R22"),
+        Ok(r) => println!(rt; " {} {} {}", r.raw(), r.offset().0, r.coordinate().0),
+        Err(OutOfRange) => println!(rt; " R22"),
+    }
+}
+
+// The number of a refusal.
+fn refusal(error: ColorError) -> u32 {
+    match error {
+        ColorError::BrokenRuns => 23,
+        ColorError::PastLabel => 24,
+        ColorError::NoRoom => 9,
     }
 }
 
 fn color(rt: &impl Print, runs: &[u64], kmers: usize, vertex: u32) -> io::Result<()> {
     match colours::color_at(runs, kmers, VertexOffset(vertex)) {
-        ColorAnswer::Color(c) => number(rt, c.0),
-        ColorAnswer::BrokenRuns => print!(rt; " R23"),
-        ColorAnswer::PastLabel => print!(rt; " R24"),
+        Ok(c) => print!(rt; " {}", c.0),
+        Err(error) => print!(rt; " R{}", refusal(error)),
     }
-}
-
-fn show(rt: &impl Print, cells: &[u64]) -> io::Result<()> {
-    for cell in cells {
-        number(rt, *cell)?;
-    }
-    println!(rt;)
 }
 
 // The colours of all vertices in nine cells, and every cell.
 fn colors(rt: &impl Print, runs: &[u64], kmers: usize) -> io::Result<()> {
     let mut cells = [FREE; 9];
     match colours::write_colors(runs, kmers, &mut cells) {
-        ColorsAnswer::Written(n) => print!(rt; " {n}")?,
-        ColorsAnswer::BrokenRuns => print!(rt; " R23")?,
-        ColorsAnswer::NoRoom => print!(rt; " R9")?,
+        Ok(n) => print!(rt; " {n}")?,
+        Err(error) => print!(rt; " R{}", refusal(error))?,
     }
-    show(rt, &cells)
-}
-
-fn ten_colors(rt: &impl Print, runs: &[u64], kmers: usize) -> io::Result<()> {
-    for vertex in 0..10 {
-        color(rt, runs, kmers, vertex)?;
+    for cell in cells {
+        print!(rt; " {cell}")?;
     }
-    Ok(())
+    println!(rt;)
 }
 
 // Whether the list is sound, the colours at the vertices 0 to 9, at those around 2^24 and at 2^32 - 1, and those of
@@ -108,14 +92,14 @@ fn ten_colors(rt: &impl Print, runs: &[u64], kmers: usize) -> io::Result<()> {
 fn list(rt: &impl Print, runs: &[u64], kmers: usize) -> io::Result<()> {
     print!(rt; "list {} {kmers}", runs.len())?;
     match colours::check_runs(runs, kmers) {
-        RunsAnswer::Sound => print!(rt; " sound:")?,
-        RunsAnswer::Broken => print!(rt; " R23:")?,
+        Ok(()) => print!(rt; " sound:")?,
+        Err(error) => print!(rt; " R{}:", refusal(error))?,
     }
-    ten_colors(rt, runs, kmers)?;
-    color(rt, runs, kmers, 0xfffffe)?;
-    color(rt, runs, kmers, 0xffffff)?;
-    color(rt, runs, kmers, 0x1000000)?;
-    color(rt, runs, kmers, 0xffffffff)?;
+    for vertex in [
+        0, 1, 2, 3, 4, 5, 6, 7, 8, 9, 0xfffffe, 0xffffff, 0x1000000, 0xffffffff,
+    ] {
+        color(rt, runs, kmers, vertex)?;
+    }
     print!(rt; ";")?;
     colors(rt, runs, kmers)
 }

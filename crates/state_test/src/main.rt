@@ -5,192 +5,150 @@
 #![tactic(auto)]
 
 use dna::Base;
-use state::{
-    Counting, EdgeAnswer, EdgeFrequency, EdgePresence, Frequency, Marking, NumberAnswer, Side,
-    TestAnswer,
-};
+use state::{EdgeFrequency, EdgePresence, NoBase, Side};
 use std::io;
+
+// A vertex's edges in one word, of either kind.
+trait Edges: Copy {
+    fn add(self, side: Side, edge: Base) -> Result<u32, NoBase>;
+
+    fn update(self, front: Base, back: Base) -> Result<u32, NoBase>;
+}
+
+impl Edges for EdgeFrequency {
+    fn add(self, side: Side, edge: Base) -> Result<u32, NoBase> {
+        Ok(self.add_edge(side, edge)?.packed)
+    }
+
+    fn update(self, front: Base, back: Base) -> Result<u32, NoBase> {
+        Ok(self.update_edges(front, back)?.packed)
+    }
+}
+
+impl Edges for EdgePresence {
+    fn add(self, side: Side, edge: Base) -> Result<u32, NoBase> {
+        Ok(self.add_edge(side, edge)?.flags)
+    }
+
+    fn update(self, front: Base, back: Base) -> Result<u32, NoBase> {
+        Ok(self.update_edges(front, back)?.flags)
+    }
+}
 
 fn number(rt: &impl Print, n: u32) -> io::Result<()> {
     print!(rt; " {n}")
 }
 
-fn test(rt: &impl Print, t: bool) -> io::Result<()> {
-    if t {
-        print!(rt; " 1")
-    } else {
-        print!(rt; " 0")
+// A number, or the number of the refusal.
+fn answer<E: Drop>(rt: &impl Print, answer: Result<u32, E>, refusal: u32) -> io::Result<()> {
+    match answer {
+        Ok(n) => number(rt, n),
+        Err(_) => print!(rt; " R{refusal}"),
     }
 }
 
-fn word(rt: &impl Print, bits: u32) -> io::Result<()> {
-    print!(rt; " {bits:08x}")
-}
-
-fn base(code: u32) -> Base {
-    match code {
-        0 => Base::A,
-        1 => Base::C,
-        2 => Base::G,
-        3 => Base::T,
-        4 => Base::N,
-        _ => Base::E,
+fn word(rt: &impl Print, answer: Result<u32, NoBase>) -> io::Result<()> {
+    match answer {
+        Ok(word) => println!(rt; " {word:08x}"),
+        Err(NoBase) => println!(rt; " R10"),
     }
 }
 
-fn side(number: u32) -> Side {
-    match number {
-        0 => Side::Front,
-        _ => Side::Back,
-    }
+fn side(number: u8) -> Side {
+    if number == 0 { Side::Front } else { Side::Back }
 }
 
 fn ask_side(rt: &impl Print, edges: EdgeFrequency, side: Side, cutoff: u32) -> io::Result<()> {
     number(rt, edges.edge_count(side, cutoff))?;
-    number(rt, edges.edge_at(side, cutoff).bits() as u32)?;
-    test(rt, edges.is_branching_side(side, cutoff))?;
-    test(rt, edges.is_empty_side(side, cutoff))
+    number(rt, u32::from(edges.edge_at(side, cutoff).bits()))?;
+    number(rt, u32::from(edges.is_branching_side(side, cutoff)))?;
+    number(rt, u32::from(edges.is_empty_side(side, cutoff)))
 }
 
 fn ask(rt: &impl Print, edges: EdgeFrequency, cutoff: u32) -> io::Result<()> {
     print!(rt; "cutoff {cutoff}")?;
     ask_side(rt, edges, Side::Front, cutoff)?;
     ask_side(rt, edges, Side::Front.inverse(), cutoff)?;
-    test(rt, edges.is_isolated(cutoff))?;
-    println!(rt;)
-}
-
-fn frequency(rt: &impl Print, f: Frequency) -> io::Result<()> {
-    match f {
-        Frequency::Count(n) => number(rt, n),
-        Frequency::NoBase => print!(rt; " R10"),
-    }
-}
-
-fn counting(rt: &impl Print, c: Counting) -> io::Result<()> {
-    match c {
-        Counting::Done(edges) => word(rt, edges.packed)?,
-        Counting::NoBase => print!(rt; " R10")?,
-    }
+    number(rt, u32::from(edges.is_isolated(cutoff)))?;
     println!(rt;)
 }
 
 fn frequencies(rt: &impl Print, edges: EdgeFrequency, side: Side) -> io::Result<()> {
-    frequency(rt, edges.frequency(side, 0))?;
-    frequency(rt, edges.frequency(side, 1))?;
-    frequency(rt, edges.frequency(side, 2))?;
-    frequency(rt, edges.frequency(side, 3))
+    for base_bits in 0..4 {
+        answer(rt, edges.frequency(side, base_bits), 10)?;
+    }
+    Ok(())
 }
 
 fn show(rt: &impl Print, edges: EdgeFrequency) -> io::Result<()> {
-    print!(rt; "word")?;
-    word(rt, edges.packed)?;
+    let packed = edges.packed;
+    print!(rt; "word {packed:08x}")?;
     frequencies(rt, edges, Side::Front)?;
     frequencies(rt, edges, Side::Back)?;
     println!(rt;)?;
-    ask(rt, edges, 0)?;
-    ask(rt, edges, 1)?;
-    ask(rt, edges, 2)?;
-    ask(rt, edges, 15)?;
-    ask(rt, edges, 16)?;
-    ask(rt, edges, 0xffffffff)
+    for cutoff in [0, 1, 2, 15, 16, 0xffff_ffff] {
+        ask(rt, edges, cutoff)?;
+    }
+    Ok(())
 }
 
 // A slot's base is one of A, C, G and T, so that the edge is never refused.
-fn raised_once(packed: u32, slot: u32) -> u32 {
-    let edges = EdgeFrequency { packed };
-    match edges.add_edge(side(slot / 4), base(slot % 4)) {
-        Counting::Done(after) => after.packed,
-        Counting::NoBase => 0,
-    }
-}
-
-fn raised_times(packed: u32, slot: u32, times: u32) -> u32 {
-    let mut word = packed;
+fn raised_times(word: u32, slot: u8, times: u32) -> u32 {
+    let mut edges = EdgeFrequency { packed: word };
     for _ in 0..times {
-        word = raised_once(word, slot);
+        edges = edges
+            .add_edge(side(slot / 4), Base::from_bits(slot % 4))
+            .unwrap_or(edges);
     }
-    word
+    edges.packed
 }
 
-// How often a counter is raised where counter slot is raised n times and each other one as often as others says.
-fn times(counter: u32, slot: u32, n: u32, others: u32) -> u32 {
-    if counter == slot { n } else { others }
-}
-
-fn raised(slot: u32, n: u32, others: u32) -> EdgeFrequency {
-    let mut word = 0;
+// A word in which counter slot is raised n times and each other one as often as others says.
+fn raised(slot: u8, n: u32, others: u32) -> EdgeFrequency {
+    let mut packed = 0;
     for counter in 0..8 {
-        word = raised_times(word, counter, times(counter, slot, n, others));
+        let times = if counter == slot { n } else { others };
+        packed = raised_times(packed, counter, times);
     }
-    EdgeFrequency { packed: word }
-}
-
-fn each_raised(rt: &impl Print, n: u32, others: u32) -> io::Result<()> {
-    for slot in 0..8 {
-        show(rt, raised(slot, n, others))?;
-    }
-    Ok(())
+    EdgeFrequency { packed }
 }
 
 fn limits(rt: &impl Print, others: u32) -> io::Result<()> {
-    each_raised(rt, 0, others)?;
-    each_raised(rt, 1, others)?;
-    each_raised(rt, 15, others)?;
-    each_raised(rt, 16, others)
+    for n in [0, 1, 15, 16] {
+        for slot in 0..8 {
+            show(rt, raised(slot, n, others))?;
+        }
+    }
+    Ok(())
 }
 
-fn add(rt: &impl Print, edges: EdgeFrequency, to: u32, code: u32) -> io::Result<()> {
-    print!(rt; "add {to} {code}")?;
-    counting(rt, edges.add_edge(side(to), base(code)))
-}
-
-fn adds(rt: &impl Print, edges: EdgeFrequency, to: u32) -> io::Result<()> {
+fn adds<T: Edges>(rt: &impl Print, edges: T, to: u8) -> io::Result<()> {
     for code in 0..6 {
-        add(rt, edges, to, code)?;
+        print!(rt; "add {to} {code}")?;
+        word(rt, edges.add(side(to), Base::from_bits(code)))?;
     }
     Ok(())
 }
 
-fn update(rt: &impl Print, edges: EdgeFrequency, front: u32, back: u32) -> io::Result<()> {
-    print!(rt; "update {front} {back}")?;
-    counting(rt, edges.update_edges(base(front), base(back)))
-}
-
-fn updates(rt: &impl Print, edges: EdgeFrequency, front: u32) -> io::Result<()> {
+fn updates<T: Edges>(rt: &impl Print, edges: T, front: u8) -> io::Result<()> {
     for back in 0..6 {
-        update(rt, edges, front, back)?;
+        print!(rt; "update {front} {back}")?;
+        word(
+            rt,
+            edges.update(Base::from_bits(front), Base::from_bits(back)),
+        )?;
     }
     Ok(())
 }
 
-fn number_answer(rt: &impl Print, answer: NumberAnswer) -> io::Result<()> {
-    match answer {
-        NumberAnswer::Edges(n) => number(rt, n),
-        NumberAnswer::WrongCutoff => print!(rt; " R15"),
+// Every edge and every pair of neighbours.
+fn add_all<T: Edges>(rt: &impl Print, edges: T) -> io::Result<()> {
+    adds(rt, edges, 0)?;
+    adds(rt, edges, 1)?;
+    for front in 0..6 {
+        updates(rt, edges, front)?;
     }
-}
-
-fn edge_answer(rt: &impl Print, answer: EdgeAnswer) -> io::Result<()> {
-    match answer {
-        EdgeAnswer::Edge(b) => number(rt, b.bits() as u32),
-        EdgeAnswer::WrongCutoff => print!(rt; " R15"),
-    }
-}
-
-fn test_answer(rt: &impl Print, answer: TestAnswer) -> io::Result<()> {
-    match answer {
-        TestAnswer::Is(t) => test(rt, t),
-        TestAnswer::WrongCutoff => print!(rt; " R15"),
-    }
-}
-
-fn marked(rt: &impl Print, answer: Marking) -> io::Result<()> {
-    match answer {
-        Marking::Done(present) => word(rt, present.flags)?,
-        Marking::NoBase => print!(rt; " R10")?,
-    }
-    println!(rt;)
+    Ok(())
 }
 
 fn ask_present_side(
@@ -199,116 +157,61 @@ fn ask_present_side(
     side: Side,
     cutoff: u32,
 ) -> io::Result<()> {
-    number_answer(rt, present.edge_count(side, cutoff))?;
-    edge_answer(rt, present.edge_at(side, cutoff))?;
-    test_answer(rt, present.is_branching_side(side, cutoff))?;
-    test_answer(rt, present.is_empty_side(side, cutoff))
+    answer(rt, present.edge_count(side, cutoff), 15)?;
+    answer(
+        rt,
+        present.edge_at(side, cutoff).map(|b| u32::from(b.bits())),
+        15,
+    )?;
+    answer(
+        rt,
+        present.is_branching_side(side, cutoff).map(u32::from),
+        15,
+    )?;
+    answer(rt, present.is_empty_side(side, cutoff).map(u32::from), 15)
 }
 
 fn ask_present(rt: &impl Print, present: EdgePresence, cutoff: u32) -> io::Result<()> {
     print!(rt; "cutoff {cutoff}")?;
     ask_present_side(rt, present, Side::Front, cutoff)?;
     ask_present_side(rt, present, Side::Back, cutoff)?;
-    test_answer(rt, present.is_isolated(cutoff))?;
+    answer(rt, present.is_isolated(cutoff).map(u32::from), 15)?;
     println!(rt;)
 }
 
 fn show_present(rt: &impl Print, flags: u32) -> io::Result<()> {
-    let present = EdgePresence { flags };
-    print!(rt; "presence")?;
-    word(rt, present.flags)?;
-    println!(rt;)?;
-    ask_present(rt, present, 0)?;
-    ask_present(rt, present, 1)?;
-    ask_present(rt, present, 2)?;
-    ask_present(rt, present, 16)
+    println!(rt; "presence {flags:08x}")?;
+    for cutoff in [0, 1, 2, 16] {
+        ask_present(rt, EdgePresence { flags }, cutoff)?;
+    }
+    Ok(())
 }
 
-// The 256 words without a stray bit.
+// The 256 words without a stray bit, and words with stray bits, which change no answer.
 fn every_present(rt: &impl Print) -> io::Result<()> {
     for present in 0..256 {
         show_present(rt, present << 3)?;
     }
-    Ok(())
-}
-
-// Words with stray bits, which change no answer.
-fn stray_present(rt: &impl Print) -> io::Result<()> {
-    show_present(rt, 0x7f9)?;
-    show_present(rt, 0x807)?;
-    show_present(rt, 0x80000000)?;
-    show_present(rt, 0xfffff807)?;
-    show_present(rt, 0xfffffaaf)?;
-    show_present(rt, 0xffffffff)
-}
-
-fn mark(rt: &impl Print, present: EdgePresence, to: u32, code: u32) -> io::Result<()> {
-    print!(rt; "add {to} {code}")?;
-    marked(rt, present.add_edge(side(to), base(code)))
-}
-
-fn marks(rt: &impl Print, present: EdgePresence, to: u32) -> io::Result<()> {
-    for code in 0..6 {
-        mark(rt, present, to, code)?;
+    for flags in [0x7f9, 0x807, 0x80000000, 0xfffff807, 0xfffffaaf, 0xffffffff] {
+        show_present(rt, flags)?;
     }
     Ok(())
 }
 
-fn mark_both(rt: &impl Print, present: EdgePresence, front: u32, back: u32) -> io::Result<()> {
-    print!(rt; "update {front} {back}")?;
-    marked(rt, present.update_edges(base(front), base(back)))
-}
-
-fn marks_both(rt: &impl Print, present: EdgePresence, front: u32) -> io::Result<()> {
-    for back in 0..6 {
-        mark_both(rt, present, front, back)?;
-    }
-    Ok(())
-}
-
-fn mark_from(rt: &impl Print, flags: u32) -> io::Result<()> {
-    let present = EdgePresence { flags };
-    print!(rt; "presence")?;
-    word(rt, present.flags)?;
-    println!(rt;)?;
-    marks(rt, present, 0)?;
-    marks(rt, present, 1)?;
-    marks_both(rt, present, 0)?;
-    marks_both(rt, present, 1)?;
-    marks_both(rt, present, 2)?;
-    marks_both(rt, present, 3)?;
-    marks_both(rt, present, 4)?;
-    marks_both(rt, present, 5)
-}
-
-// A word without a bit, one with some, one with all; then stray bits, which stay.
+// To a word without a bit, one with some, one with all; then to stray bits, which stay.
 fn mark_all(rt: &impl Print) -> io::Result<()> {
-    mark_from(rt, 0)?;
-    mark_from(rt, 0x128)?;
-    mark_from(rt, 0x7f8)?;
-    mark_from(rt, 0x807)?;
-    mark_from(rt, 0xfffff807)?;
-    mark_from(rt, 0xffffffff)
-}
-
-fn counters(rt: &impl Print) -> io::Result<()> {
-    limits(rt, 0)?;
-    limits(rt, 2)?;
-    limits(rt, 15)?;
-    let start = raised(1, 14, 3);
-    adds(rt, start, 0)?;
-    adds(rt, start, 1)?;
-    updates(rt, start, 0)?;
-    updates(rt, start, 1)?;
-    updates(rt, start, 2)?;
-    updates(rt, start, 3)?;
-    updates(rt, start, 4)?;
-    updates(rt, start, 5)
+    for flags in [0, 0x128, 0x7f8, 0x807, 0xfffff807, 0xffffffff] {
+        println!(rt; "presence {flags:08x}")?;
+        add_all(rt, EdgePresence { flags })?;
+    }
+    Ok(())
 }
 
 fn main(rt: HostRuntime) -> io::Result<()> {
-    counters(&rt)?;
+    limits(&rt, 0)?;
+    limits(&rt, 2)?;
+    limits(&rt, 15)?;
+    add_all(&rt, raised(1, 14, 3))?;
     every_present(&rt)?;
-    stray_present(&rt)?;
     mark_all(&rt)
 }
