@@ -14,7 +14,7 @@ either P (gives x) p q = p x refl
 either P (refuses r vs) p q = q r vs refl
 
 pub ungiven : {A P : Type 0} (x : A) (r : ℕ) (vs : List ℕ) → gives x ≡ refuses r vs → P
-ungiven x r vs e = let z : ◌≡◌ {A = ℕ} 0 1 = cc in absurd (omega arith)
+ungiven x r vs e = cc
 
 -- Where a Result's answer gives what f reads off its value, or refuses with its error's number, it tells all cases
 -- apart that f and the numbers tell apart.

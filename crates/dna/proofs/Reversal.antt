@@ -4,7 +4,7 @@ use mathlib.Core.List.{List, map}
 use Prim.Native.Nat.{ℕ, ◌-◌, ◌<◌}
 use native.Mathlib.Omega.{arith}
 use lib.ListN.{length, get_or, length-reverse, length-map}
-use Rattle.lemmas.proofs.Lists.{get_d_map, get_d_reverse}
+use Rattle.std.proofs.lemmas.List.{get_or-map, get_or-reverse}
 use Rattle.dna.specs.Letters.{complement_letter, reverse_complement}
 
 module _ (s : List ℕ) where
@@ -16,6 +16,6 @@ module _ (s : List ℕ) where
   unfolding reverse_complement
   reverse_complement_at i h =
       let n : length (map complement_letter s) ≡ length s = length-map s complement_letter in
-      get_d_reverse (map complement_letter s) i (omega arith)
+      get_or-reverse (map complement_letter s) i 0 (omega arith)
       ∙ ap (λ (m : ℕ). get_or (map complement_letter s) (m - 1 - i) 0) n
-      ∙ get_d_map complement_letter s (length s - 1 - i) (omega arith)
+      ∙ get_or-map complement_letter s (length s - 1 - i) 0 0 (omega arith)

@@ -36,4 +36,4 @@ no_bad_bases i (b ∷ s) h = go (is_base b) refl (no_bad_bases (suc i) s) h
   where
     go : (t : Bool) → is_base b ≡ t → (first_bad (suc i) s ≡ [] → Bases s) → cond t (first_bad (suc i) s) (i ∷ b ∷ []) ≡ [] → Bases (b ∷ s)
     go true e f q = (ltb-true (code_of b) 4 e, f q)
-    go false e f q = let z : ◌≡◌ {A = ℕ} 0 1 = cc in absurd (omega arith)
+    go false e f q = cc

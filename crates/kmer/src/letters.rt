@@ -50,7 +50,7 @@ fn write(k: usize, x: Kmer, out: &mut [u8])
     let count = k / 4;
     for i in 0..count {
         let byte = byte_of(x, count - 1 - i);
-        put_quad(quads[byte as usize], k % 4 + 4 * i, out);
+        put_quad(quads[usize::from(byte)], k % 4 + 4 * i, out);
     }
 }
 

@@ -39,7 +39,7 @@ fn word_of(seq: &[u8]) -> u64
 {
     let mut word = 0;
     for &byte in seq {
-        word = words::push_low(word, dna::valid_ascii_base_bits(byte) as u64);
+        word = words::push_low(word, u64::from(dna::valid_ascii_base_bits(byte)));
     }
     word
 }

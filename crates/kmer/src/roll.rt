@@ -13,8 +13,7 @@ fn forward(k: usize, x: Kmer, bits: u64) -> Kmer
     requires { (k ≤ 63) × (bits < 4) }
     ensures { result ≡ kmer_of (forward k (value_of x) bits) }
 {
-    let lo = x.words[0];
-    let hi = x.words[1];
+    let [lo, hi] = x.words;
     let low = words::push_low(lo, bits) & words::low_mask(k);
     let high = words::push_low(hi, lo >> 62) & words::high_mask(k);
     Kmer { words: [low, high] }
@@ -26,8 +25,7 @@ fn backward(k: usize, x: Kmer, bits: u64) -> Kmer
     requires { (1 ≤ k) × (k ≤ 63) × (bits < 4) × (value_of x < 4 ^ k) }
     ensures { result ≡ kmer_of (backward k (value_of x) bits) }
 {
-    let lo = x.words[0];
-    let hi = x.words[1];
+    let [lo, hi] = x.words;
     let low = words::push_high(lo, hi);
     let high = hi >> 2;
     let shift = 2 * (k - 1);
@@ -48,8 +46,8 @@ impl Kmer {
         ensures { Answers result (forward_call k (value_of self) (code_in next)) }
     {
         let bits = next.bits();
-        verdict::verdict_below(k, self, 4, bits as usize)?;
-        Ok(forward(k, self, bits as u64))
+        verdict::verdict_below(k, self, 4, usize::from(bits))?;
+        Ok(forward(k, self, u64::from(bits)))
     }
 
     // The last base dropped, one put in front.
@@ -57,7 +55,7 @@ impl Kmer {
         ensures { Answers result (backward_call k (value_of self) (code_in prev)) }
     {
         let bits = prev.bits();
-        verdict::verdict_below(k, self, 4, bits as usize)?;
-        Ok(backward(k, self, bits as u64))
+        verdict::verdict_below(k, self, 4, usize::from(bits))?;
+        Ok(backward(k, self, u64::from(bits)))
     }
 }

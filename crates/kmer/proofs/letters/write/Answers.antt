@@ -26,7 +26,7 @@ loop-i-preserved c =
     let at = k % 4 + 4 * l.i in
     let quad = ap (λ (q : List ℕ). get_or q byte.result 0) c.table-quads.ensures ∙ made_at quad_of 256 byte.result (search rules) in
     λ s h b.
-    rw c.put_quad.ensures
+    rw (c.put_quad.ensures, c.from.ensures)
     (recount _ s _ {i = at + 4} (omega arith)
     (built_quad k (value_of a.x) j at (omega arith) s l.out _ (quad ∙ ap quad_of byte.ensures) h (l.invariant s h b)))
 

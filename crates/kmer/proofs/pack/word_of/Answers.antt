@@ -11,9 +11,9 @@ unfolding onto
 loop-byte-init c = refl
 
 pub push_low-word-requires : goal.push_low-word-requires
-push_low-word-requires c = rw c.valid_ascii_base_bits.ensures (valid_small _)
+push_low-word-requires c = rw (c.from.ensures, c.valid_ascii_base_bits.ensures) (valid_small _)
 
 pub loop-byte-preserved : goal.loop-byte-preserved
 loop-byte-preserved c =
     let l = c.loop-byte in
-    c.push_low-word.ensures ∙ rw (c.valid_ascii_base_bits.ensures, l.invariant) (word_more c.args.seq.now l.byte-index c.requires (omega arith))
+    c.push_low-word.ensures ∙ rw (c.from.ensures, c.valid_ascii_base_bits.ensures, l.invariant) (word_more c.args.seq.now l.byte-index c.requires (omega arith))
