@@ -63,6 +63,9 @@ least_to_lem s (suc n) = go (least_to_lem s n) (before (rotation s (suc n)) (rot
         last q (yes u) h = rw u e
         last q (no u) h = ih.least q (omega arith)
 
+pub least_within : (s : List ℕ) → least_start s ≤ length s
+least_within s = omega (arith, (least_to_lem s (length s - 1)).within)
+
 -- It is 0 for lengths 0 and 1.
 pub short : (s : List ℕ) → length s ≤ 1 → 0 ≡ least_start s
 short s h = omega (arith, (least_to_lem s (length s - 1)).within)

@@ -42,8 +42,9 @@ pub fn minimal_rotation(label: &[u8], out: &mut [u8]) -> Result<usize, NoRoom>
         return Err(NoRoom);
     }
     let start = least_rotation_start(label);
-    out[..n].copy_from_slice(label);
-    out[..n].rotate_left(start);
+    let (front, back) = label.split_at(start);
+    out[..back.len()].copy_from_slice(back);
+    out[back.len()..n].copy_from_slice(front);
     Ok(n)
 }
 
