@@ -37,9 +37,10 @@ use Rattle.judging.proofs.Rows.{row_first, row_bad, row_alone}
 pub leaving_base : (e : ℕ) → e < 4 → 3 - e ≡ leaving Front e
 leaving_base e h = sym (complement_is e h)
 
-pub leaving_none : (e : ℕ) → 4 ≤ e → e ≡ leaving Front e
+pub leaving_same : (s : Side) (e : ℕ) → 4 ≤ e → e ≡ leaving s e
 unfolding complement
-leaving_none e h = rw (le-ltb e 4 h)
+leaving_same Front e h = rw (le-ltb e 4 h)
+leaving_same Back e h = refl
 
 leaving_back : (s : Side) (e : ℕ) → leaving s e < 4 → e < 4
 leaving_back Front e h = complement_back e h
@@ -52,12 +53,6 @@ module _ (label : List ℕ) (bases : Bases label) (o b : ℕ) where
   pub followed_on : (K : ℕ) → o + K < length label → {v : ℕ} → v ≡ valid_bits (get_or label (o + K) 0) → {t : Bool} → t ≡ eqb b v → t
       ≡ followed K label o b
   followed_on K h e q = q ∙ ap (eqb b) (e ∙ code_is label (o + K) h bases) ∙ sym (rw (lt-ltb (o + K) (length label) h))
-
-  pub followed_end : (K : ℕ) → length label ≤ o + K → true ≡ followed K label o b
-  followed_end K h = rw (le-ltb (o + K) (length label) h)
-
-  pub preceded_first : o ≡ 0 → true ≡ preceded label o b
-  preceded_first h = rw (eq-eqb o 0 h)
 
   pub preceded_on : (o ≡ 0 → ⊥) → o ≤ length label → {v : ℕ} → v ≡ valid_bits (get_or label (o - 1) 0) → {t : Bool} → t ≡ eqb b (3 - v)
       → t ≡ preceded label o b

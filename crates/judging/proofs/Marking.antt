@@ -20,8 +20,7 @@ use Rattle.graph.specs.Table.{rank, stored}
 use Rattle.graph.specs.Sightings.{window}
 use Rattle.graph.proofs.Packed.{window_packed, packed_small}
 use Rattle.graph.specs.Walks.{Ends, edge, isolated, visited, leaving}
-use Rattle.table.specs.declared.Found.{Found}
-use Rattle.table.specs.declared.Found.TheVariants.{At, Gap}
+use Rattle.std.specs.Prelude.{Result, Ok, Err}
 use Rattle.directory.specs.Directory.{find_by}
 use Rattle.marks.specs.Marks.{end_in, ends, visits}
 use Rattle.marks.proofs.Marking.{edge_is, visits_marking, ends_marking}
@@ -34,16 +33,16 @@ use Rattle.judging.specs.declared.Tested.{Tested}
 use Rattle.judging.specs.declared.Tested.TheVariants as tested
 use Rattle.judging.specs.Standing.{followed, preceded, joined_by, is_misplaced, Marked, TestsKmer, TestsWindow}
 
-module _ {K : ℕ} {keys ms : List ℕ} (r : Ready K keys ms) (cells : List ℕ) (c : ℕ) {f : Found}
+module _ {K : ℕ} {keys ms : List ℕ} (r : Ready K keys ms) (cells : List ℕ) (c : ℕ) {f : Result ℕ ℕ}
     (ended : f ≡ find_by K (keys_for ms keys) cells c) where
   abbrev ks : List ℕ
   ks = keys_for ms keys
 
-  marked_gap : {w : ℕ} → f ≡ Gap w → Marked K keys ms c true ms
+  marked_gap : {w : ℕ} → f ≡ Err w → Marked K keys ms c true ms
   unfolding is_live
   marked_gap e = record { told = sym (rw (gap_is r cells c ended e)); ends_kept = refl; marked = λ h. never true refl h }
 
-  module _ {w : ℕ} (e : f ≡ At w) {s : Bool} (q : s ≡ (visited (visits ms) w || isolated (ends ms) w)) where
+  module _ {w : ℕ} (e : f ≡ Ok w) {s : Bool} (q : s ≡ (visited (visits ms) w || isolated (ends ms) w)) where
     wrong_is : (not (is_live K ks (ends ms) c) || visited (visits ms) (rank ks c))
         ≡ (not (not (isolated (ends ms) w)) || visited (visits ms) w)
     unfolding is_live
@@ -75,12 +74,12 @@ joined_alike : (K : ℕ) (label : List ℕ) (o : ℕ) (s : Side) (f g : Side →
 joined_alike K label o s f g h =
     ap₂ (λ (a b : ℕ). followed K label o (leaving s a) && preceded label o (leaving (opposite s) b)) (h s) (h (opposite s))
 
-module _ {K : ℕ} {keys ms : List ℕ} (r : Ready K keys ms) (cells label : List ℕ) (o c : ℕ) (side : Side) {f : Found}
+module _ {K : ℕ} {keys ms : List ℕ} (r : Ready K keys ms) (cells label : List ℕ) (o c : ℕ) (side : Side) {f : Result ℕ ℕ}
     (ended : f ≡ find_by K (keys_for ms keys) cells c) where
-  pub kmer_gap : {w : ℕ} → f ≡ Gap w → TestsKmer K keys ms label o c side tested.Misplaced ms
+  pub kmer_gap : {w : ℕ} → f ≡ Err w → TestsKmer K keys ms label o c side tested.Misplaced ms
   kmer_gap e = record { placed = marked_gap r cells c ended e; joined = λ h. never true refl h }
 
-  module _ {w : ℕ} (e : f ≡ At w) {s : Bool} (q : s ≡ (visited (visits ms) w || isolated (ends ms) w)) where
+  module _ {w : ℕ} (e : f ≡ Ok w) {s : Bool} (q : s ≡ (visited (visits ms) w || isolated (ends ms) w)) where
     pub kmer_skipped : s ≡ true → TestsKmer K keys ms label o c side tested.Misplaced ms
     kmer_skipped h = record { placed = marked_skipped r cells c ended e q h; joined = λ z. never true refl z }
 

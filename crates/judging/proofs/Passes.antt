@@ -7,6 +7,7 @@ use mathlib.Core.List.{List, [], ◌∷◌}
 use native.Mathlib.Omega.{arith}
 use borrow.Author.Tests.{ne_eqb, ltb-false, lt-ltb, le-ltb}
 use lib.Dec.{ltb}
+use Rattle.std.specs.Prelude.{Option, Some, None, Ok, Err, IfSome}
 use lib.ListN.{length, drop, replicate, length-drop}
 use Rattle.lemmas.proofs.Tests.{choose, never}
 use Rattle.lemmas.proofs.Numbers.{lt_or_ge}
@@ -22,9 +23,8 @@ use Rattle.rules.specs.Verdict.{Test, first_of, breaks1, breaks2, breaks3, break
 use Rattle.rules.proofs.Listing.{listing_sound, listing_complete, lists_labels}
 use Rattle.rules.proofs.Firsts.{first_here, first_on, first_nil}
 use Rattle.laws.specs.Demand.{Each, Each.more}
-use Rattle.judging.specs.declared.First.TheVariants as first
 use Rattle.judging.specs.declared.Tested.{Tested}
-use Rattle.judging.specs.declared.Tried.TheVariants as tried
+use Rattle.judging.specs.declared.AllPlaced.{AllPlaced}
 use Rattle.judging.specs.Places.{is_held, Recorded, Spans}
 use Rattle.judging.specs.declared.Span.{Span}
 use Rattle.marks.specs.Ready.{keys_for, Ready, Unvisited}
@@ -62,11 +62,17 @@ module _ (K : ℕ) (text : List ℕ) (test : Test) where
     all_is : labels_in (listing K text) ≡ p.all
     all_is = ap labels_in (listing_complete K p.whole)
 
-    pub pass_end : length text ≤ at → Finds test (labels_in (listing K text)) (first.All i)
+    pub pass_end : length text ≤ at → Finds test (labels_in (listing K text)) None
     pass_end h =
         let e = none_left p.left (omega (arith, length-drop at text)) in
         let n : length p.rest ≡ 0 = ap length e in
-        rw all_is (omega (arith, p.number, p.found), omega (arith, p.number))
+        rw all_is (omega (arith, p.number, p.found))
+
+    pub pass_counted : length text ≤ at → length (labels_in (listing K text)) ≡ i
+    pass_counted h =
+        let e = none_left p.left (omega (arith, length-drop at text)) in
+        let n : length p.rest ≡ 0 = ap length e in
+        rw all_is (omega (arith, p.number))
 
     module _ (h : at < length text) where
       next : (l : List ℕ) × (ls : List (List ℕ)) × (p.rest ≡ l ∷ ls)
@@ -94,7 +100,7 @@ module _ (K : ℕ) (text : List ℕ) (test : Test) where
         rest_is : p.rest ≡ label ∷ next.1
         rest_is = next.2 ∙ ap (λ (l : List ℕ). l ∷ next.1) label_is
 
-        pub pass_found : {r : Bool} → r ≡ test done label → r ≡ true → Finds test (labels_in (listing K text)) (first.Label i)
+        pub pass_found : {r : Bool} → r ≡ test done label → r ≡ true → Finds test (labels_in (listing K text)) (Some i)
         pass_found q t =
             let f : first_of test done p.rest ≡ 0 = ap (first_of test done) rest_is ∙ first_here test done label next.1 (sym q ∙ t) in
             let n : length p.rest ≡ suc (length next.1) = ap length rest_is in
@@ -126,36 +132,36 @@ any_done_4 K ks es done l = refl
 -- ---- rule 1
 
 -- For every K for which the text holds a list: the pass, and the label before.
-abbrev pub Ordering : List ℕ → ℕ → Span → ℕ → Type 0
-Ordering text i b at =
-    (b.start ≤ b.end)
-    × ((K : ℕ) → is_held (listing K text) ≡ true → (done : List (List ℕ)) × Passing K text breaks1 done i at × Follows text i b done)
+pub record Ordering (text : List ℕ) (i : ℕ) (before : Option Span) (at : ℕ) : Type 0 where
+  pub ordered : IfSome before (λ b. b.start ≤ b.end)
+  pub passing : (K : ℕ) → is_held (listing K text) ≡ true
+      → (done : List (List ℕ)) × Passing K text breaks1 done i at × Follows text before done
 
-pub ordering_start : (text : List ℕ) (b : Span) → b.start ≤ b.end → Ordering text 0 b 0
-ordering_start text b l = (l, λ K h. ([], pass_start K text breaks1 h, nothing refl))
+pub ordering_start : (text : List ℕ) → Ordering text 0 None 0
+ordering_start text = record { ordered = tt; passing = λ K h. ([], pass_start K text breaks1 h, nothing) }
 
-module _ (text : List ℕ) (i : ℕ) (b : Span) (at : ℕ) (o : Ordering text i b at) where
+module _ (text : List ℕ) (i : ℕ) (before : Option Span) (at : ℕ) (o : Ordering text i before at) where
   pub ordering_record : (K : ℕ) → is_held (listing K text) ≡ true → at < length text → Recorded text at
-  ordering_record K q h = pass_record K text breaks1 (o.1 K q).1 h
+  ordering_record K q h = pass_record K text breaks1 (o.passing K q).1 h
 
   pub ordering_few : (K : ℕ) → is_held (listing K text) ≡ true → i ≤ length text
-  ordering_few K q = let p = (o.1 K q).1 in omega (arith, p.few, p.inside)
+  ordering_few K q = let p = (o.passing K q).1 in omega (arith, p.few, p.inside)
 
-  pub ordering_end : length text ≤ at → (K : ℕ) → is_held (listing K text) ≡ true → Finds breaks1 (labels_in (listing K text)) (first.All i)
-  ordering_end h K q = pass_end K text breaks1 (o.1 K q).1 h
+  pub ordering_end : length text ≤ at → (K : ℕ) → is_held (listing K text) ≡ true → Finds breaks1 (labels_in (listing K text)) None
+  ordering_end h K q = pass_end K text breaks1 (o.passing K q).1 h
 
   module _ (h : at < length text) (l : Span) (g : Spans text at l.start l.end) {r : Bool}
-      (e : (done : List (List ℕ)) → Follows text i b done → r ≡ breaks1 done (spanned text l)) where
-    pub ordering_found : r ≡ true → (K : ℕ) → is_held (listing K text) ≡ true → Finds breaks1 (labels_in (listing K text)) (first.Label i)
-    ordering_found t K q = let p = o.1 K q in pass_found K text breaks1 p.1 h g (e p.0 p.2) t
+      (e : (done : List (List ℕ)) → Follows text before done → r ≡ breaks1 done (spanned text l)) where
+    pub ordering_found : r ≡ true → (K : ℕ) → is_held (listing K text) ≡ true → Finds breaks1 (labels_in (listing K text)) (Some i)
+    ordering_found t K q = let p = o.passing K q in pass_found K text breaks1 p.1 h g (e p.0 p.2) t
 
-    pub ordering_on : r ≡ false → Ordering text (i + 1) l (l.end + 1)
-    ordering_on t = (
-      g.ordered,
-      λ K q.
-          let p = o.1 K q in
-          (spanned text l ∷ p.0, pass_on K text breaks1 p.1 h g (e p.0 p.2) t, behind (λ z. omega arith)),
-    )
+    pub ordering_on : r ≡ false → Ordering text (i + 1) (Some l) (l.end + 1)
+    ordering_on t = record {
+      ordered = g.ordered;
+      passing = λ K q.
+          let p = o.passing K q in
+          (spanned text l ∷ p.0, pass_on K text breaks1 p.1 h g (e p.0 p.2) t, behind l);
+    }
 
 -- ---- rule 2
 
@@ -189,20 +195,23 @@ module _ {K : ℕ} {keys ms₀ text ms : List ℕ} {done : List (List ℕ)} {goo
   none_behind h =
       ap labels_in (listing_complete K p.passing.left) ∙ none_left K text test2 p.passing.left (omega (arith, length-drop at text))
 
-  pub placing_end : length text ≤ at → Placed K keys ms₀ text (tried.Placed i good) ms
+  pub placing_end : length text ≤ at → Placed K keys ms₀ text (Ok (record { labels = i; good = good })) ms
   unfolding occurrences
   placing_end h = record {
     ends_kept = p.kept;
     found = pass_end K text test2 p.passing h;
-    stood = λ n g _ x s.
+    stood = λ _ _ x s.
         let z : occurrences K x (labels_in (listing K (drop at text))) ≡ 0 = rw (none_behind h) in
         let q : stands_in K done x ≡ stands_in K (labels_in (listing K text)) x = omega (arith, p.split x) in
         p.stood x s ∙ ap (ltb 0) q;
-    stepped = λ n g e.
-        let same : good ≡ g = cc in
+    counted = λ q e.
+        let same : ◌≡◌ {A = AllPlaced} (record { labels = i; good = good }) q = cc in
+        pass_counted K text test2 p.passing h ∙ ap (λ (a : AllPlaced). a.labels) same;
+    stepped = λ q e.
+        let same : ◌≡◌ {A = AllPlaced} (record { labels = i; good = good }) q = cc in
         let z : first_of test3 done (labels_in (listing K (drop at text))) ≡ 0 = ap (first_of test3 done) (none_behind h)
         ∙ first_nil test3 done in
-        p.noted ∙ ends_at p.fewer z ∙ same;
+        p.noted ∙ ends_at p.fewer z ∙ ap (λ (a : AllPlaced). a.good) same;
   }
     where
       ends_at : {m : ℕ} → good ≤ i → m ≡ 0 → cond (ltb good i) good (i + m) ≡ good
@@ -232,12 +241,13 @@ module _ {K : ℕ} {keys ms₀ text ms : List ℕ} {done : List (List ℕ)} {goo
       told2 : is_misplaced r ≡ test2 done label2
       told2 = rw (← long2, ← p.kept) (t.told done stood_here)
 
-      pub placing_found : is_misplaced r ≡ true → Placed K keys ms₀ text (tried.Misplaced i) after
+      pub placing_found : is_misplaced r ≡ true → Placed K keys ms₀ text (Err i) after
       placing_found q = record {
         ends_kept = t.ends_kept ∙ p.kept;
         found = pass_found K text test2 p.passing h g told2 q;
-        stood = λ n m z. absurd (let w : ◌≡◌ {A = ℕ} 0 1 = cc in omega arith);
-        stepped = λ n m z. absurd (let w : ◌≡◌ {A = ℕ} 0 1 = cc in omega arith);
+        stood = λ _ z. absurd (let w : ◌≡◌ {A = ℕ} 0 1 = cc in omega arith);
+        counted = λ _ z. absurd (let w : ◌≡◌ {A = ℕ} 0 1 = cc in omega arith);
+        stepped = λ _ z. absurd (let w : ◌≡◌ {A = ℕ} 0 1 = cc in omega arith);
       }
 
       module _ (q : is_misplaced r ≡ false) where

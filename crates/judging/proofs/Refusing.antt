@@ -2,6 +2,7 @@
 use Prim.Native.Nat.{ℕ, ◌%◌, ◌≤◌, ◌<◌}
 use mathlib.Core.Path.{◌≡◌, refl, sym, ap, ap₂, ◌∙◌, subst}
 use mathlib.Core.Bool.{Bool, true, false}
+use Rattle.std.specs.Prelude.{Option, Some, None, Result, Ok, Err}
 use mathlib.Core.List.{List, [], ◌++◌, map}
 use native.Mathlib.Omega.{arith}
 use borrow.Author.Tests.{lt-ltb, le-ltb, eq-eqb, ne_eqb}
@@ -18,8 +19,8 @@ use Rattle.graph.specs.Walks.{Ends, ends_of}
 use Rattle.graph.specs.Contraction.{ends_in}
 use Rattle.graph.proofs.Accepted.{fit_for_both}
 use Rattle.table.specs.Calls.{fit_answer, fit_call}
-use Rattle.table.specs.declared.FitAnswer.{FitAnswer}
-use Rattle.table.specs.declared.FitAnswer.TheVariants.{Fit, Unfit, UnsupportedK}
+use Rattle.table.specs.declared.FitError.{FitError}
+use Rattle.table.specs.declared.FitError.TheVariants as fits
 use Rattle.table.proofs.Told.{told_unsupported, told_unfit, told_fit}
 use Rattle.marks.specs.Marks.{mark_of, ends}
 use Rattle.marks.proofs.Marking.{ends_length}
@@ -28,45 +29,42 @@ use Rattle.rules.specs.Listing.{Listing, holds, no_list, listing}
 use Rattle.rules.specs.Verdict.{Test, Verdict, yes, no, first_of, breaks1, breaks2, breaks3, breaks4, lacks, verdict}
 use Rattle.rules.specs.Judging.{judge, on_list}
 use Rattle.rules.proofs.Firsts.{first_le}
-use Rattle.judging.specs.declared.First.{First}
-use Rattle.judging.specs.declared.First.TheVariants as first
-use Rattle.judging.specs.declared.Tried.{Tried}
-use Rattle.judging.specs.declared.Tried.TheVariants as tried
-use Rattle.judging.specs.declared.JudgeAnswer.{JudgeAnswer}
-use Rattle.judging.specs.declared.JudgeAnswer.TheVariants as answers
+use Rattle.judging.specs.declared.AllPlaced.{AllPlaced}
+use Rattle.judging.specs.declared.Broken.{Broken}
+use Rattle.judging.specs.declared.JudgeError.{JudgeError}
+use Rattle.judging.specs.declared.JudgeError.TheVariants as errors
 use Rattle.marks.specs.Ready.{keys_for, FitTable, Ready}
 use Rattle.judging.specs.Places.{is_held}
 use Rattle.judging.specs.Passing.{labels_in, Finds}
-use Rattle.judging.specs.Answers.{judge_answer, Judges, ends_verdict, kmers_verdict}
+use Rattle.judging.specs.Answers.{judge_answer, refused_by, Judges, ends_verdict, kmers_verdict}
 use Rattle.judging.specs.Standing.{first_in, Placed, Lacking}
 use Rattle.judging.proofs.Lacked.{lacking_is}
 
 -- ---- the first label found
 
-module _ (test : Test) (ls : List (List ℕ)) {f : First} (g : Finds test ls f) where
-  some_found : {i : ℕ} → f ≡ first.Label i → (ltb (first_of test [] ls) (length ls) ≡ true) × (first_of test [] ls ≡ i)
+module _ (test : Test) (ls : List (List ℕ)) {f : Option ℕ} (g : Finds test ls f) where
+  some_found : {i : ℕ} → f ≡ Some i → (ltb (first_of test [] ls) (length ls) ≡ true) × (first_of test [] ls ≡ i)
   some_found {i} e =
-      let h : Finds test ls (first.Label i) = subst (Finds test ls) e g in
+      let h : Finds test ls (Some i) = subst (Finds test ls) e g in
       (lt-ltb (first_of test [] ls) (length ls) (omega (arith, h.0, h.1)), h.0)
 
-  none_found : {n : ℕ} → f ≡ first.All n → (ltb (first_of test [] ls) (length ls) ≡ false) × (length ls ≤ first_of test [] ls)
-      × (length ls ≡ n)
-  none_found {n} e =
-      let h : Finds test ls (first.All n) = subst (Finds test ls) e g in
-      (le-ltb (first_of test [] ls) (length ls) h.0, h.0, h.1)
+  none_found : f ≡ None → (ltb (first_of test [] ls) (length ls) ≡ false) × (length ls ≤ first_of test [] ls)
+  none_found e =
+      let h : Finds test ls None = subst (Finds test ls) e g in
+      (le-ltb (first_of test [] ls) (length ls) h, h)
 
 -- ---- rule 4
 
-module _ (K : ℕ) (ks : List ℕ) (es : List Ends) (ls : List (List ℕ)) {f : First} (g : Finds (breaks4 K ks es) ls f) where
-  pub fourth_broken : {i : ℕ} → f ≡ first.Label i → gives (no 4 i) ≡ gives (ends_verdict K ks es ls)
+module _ (K : ℕ) (ks : List ℕ) (es : List Ends) (ls : List (List ℕ)) {f : Option ℕ} (g : Finds (breaks4 K ks es) ls f) where
+  pub fourth_broken : {i : ℕ} → f ≡ Some i → gives (no 4 i) ≡ gives (ends_verdict K ks es ls)
   fourth_broken e = let h = some_found (breaks4 K ks es) ls g e in rw (h.0, h.1)
 
-  pub all_kept : {n : ℕ} → f ≡ first.All n → gives yes ≡ gives (ends_verdict K ks es ls)
+  pub all_kept : f ≡ None → gives yes ≡ gives (ends_verdict K ks es ls)
   all_kept e = let h = none_found (breaks4 K ks es) ls g e in rw h.0
 
 -- ---- rules 2 and 3
 
-module _ {K : ℕ} {keys ms text after : List ℕ} (ready : Ready K keys ms) {f : Tried} (p : Placed K keys ms text f after) where
+module _ {K : ℕ} {keys ms text after : List ℕ} (ready : Ready K keys ms) {f : Result AllPlaced ℕ} (p : Placed K keys ms text f after) where
   abbrev labels : List (List ℕ)
   labels = labels_in (listing K text)
 
@@ -76,24 +74,26 @@ module _ {K : ℕ} {keys ms text after : List ℕ} (ready : Ready K keys ms) {f 
   abbrev test3 : Test
   test3 = breaks3 K (keys_for ms keys) (ends ms)
 
-  pub second_broken : {i : ℕ} → f ≡ tried.Misplaced i → gives (no 2 i) ≡ gives (kmers_verdict K (keys_for ms keys) (ends ms) labels)
+  pub second_broken : {i : ℕ} → f ≡ Err i → gives (no 2 i) ≡ gives (kmers_verdict K (keys_for ms keys) (ends ms) labels)
   second_broken e = let h = some_found test2 labels p.found (ap first_in e) in rw (h.0, h.1)
 
-  module _ {n g : ℕ} (q : f ≡ tried.Placed n g) {r : Bool} (l : Lacking after r) where
+  module _ {all : AllPlaced} (q : f ≡ Ok all) {r : Bool} (l : Lacking after r) where
     none_misplaced : (ltb (first_of test2 [] labels) (length labels) ≡ false) × (length labels ≤ first_of test2 [] labels)
-        × (length labels ≡ n)
     none_misplaced = none_found test2 labels p.found (ap first_in q)
 
+    number_is : length labels ≡ all.labels
+    number_is = p.counted all q
+
     lack : r ≡ lacks K (keys_for ms keys) (ends ms) labels
-    lack = lacking_is ready p.ends_kept labels (p.stood n g q) l
+    lack = lacking_is ready p.ends_kept labels (p.stood all q) l
 
-    steps_are : first_of test3 [] labels ≡ g
-    steps_are = p.stepped n g q
+    steps_are : first_of test3 [] labels ≡ all.good
+    steps_are = p.stepped all q
 
-    pub one_missing : r ≡ true → gives (no 2 n) ≡ gives (kmers_verdict K (keys_for ms keys) (ends ms) labels)
+    pub one_missing : r ≡ true → gives (no 2 all.labels) ≡ gives (kmers_verdict K (keys_for ms keys) (ends ms) labels)
     one_missing t =
         let h = none_misplaced in
-        let m : first_of test2 [] labels ≡ n = omega (arith, h.1, h.2, first_le test2 [] labels) in
+        let m : first_of test2 [] labels ≡ all.labels = omega (arith, h.1, number_is, first_le test2 [] labels) in
         let k : lacks K (keys_for ms keys) (ends ms) labels ≡ true = sym lack ∙ t in
         rw (h.0, k, m)
 
@@ -101,19 +101,19 @@ module _ {K : ℕ} {keys ms text after : List ℕ} (ready : Ready K keys ms) {f 
       none_lacks : lacks K (keys_for ms keys) (ends ms) labels ≡ false
       none_lacks = sym lack ∙ t
 
-      pub third_broken : g < n → gives (no 3 g) ≡ gives (kmers_verdict K (keys_for ms keys) (ends ms) labels)
+      pub third_broken : all.good < all.labels → gives (no 3 all.good) ≡ gives (kmers_verdict K (keys_for ms keys) (ends ms) labels)
       third_broken b =
           let h = none_misplaced in
           let k : ltb (first_of test3 [] labels) (length labels)
-          ≡ true = lt-ltb (first_of test3 [] labels) (length labels) (omega (arith, h.2, steps_are)) in
+          ≡ true = lt-ltb (first_of test3 [] labels) (length labels) (omega (arith, number_is, steps_are)) in
           rw (h.0, none_lacks, k, steps_are)
 
-      pub third_kept : n ≤ g → {a : Answer Verdict} → a ≡ gives (ends_verdict K (keys_for after keys) (ends after) labels)
+      pub third_kept : all.labels ≤ all.good → {a : Answer Verdict} → a ≡ gives (ends_verdict K (keys_for after keys) (ends after) labels)
           → a ≡ gives (kmers_verdict K (keys_for ms keys) (ends ms) labels)
       third_kept b {a} s =
           let h = none_misplaced in
           let k : ltb (first_of test3 [] labels) (length labels)
-          ≡ false = le-ltb (first_of test3 [] labels) (length labels) (omega (arith, h.2, steps_are)) in
+          ≡ false = le-ltb (first_of test3 [] labels) (length labels) (omega (arith, number_is, steps_are)) in
           let same : a ≡ gives (ends_verdict K (keys_for ms keys) (ends ms) labels) = rw
           (← ends_length ms after p.ends_kept, ← p.ends_kept) s in
           rw (h.0, none_lacks, k) same
@@ -122,7 +122,7 @@ module _ {K : ℕ} {keys ms text after : List ℕ} (ready : Ready K keys ms) {f 
 
 module _ (κ : Kind) (K cutoff : ℕ) (keys counts ms₀ : List ℕ) (t : FitTable K keys counts ms₀) {ms : List ℕ}
     (digested : ms ≡ over (map (mark_of κ cutoff) (take (length ms₀) counts)) ms₀) where
-  pub first_kept : (ls : List (List ℕ)) {f : First} → Finds breaks1 ls f → {n : ℕ} → f ≡ first.All n → {a : Answer Verdict}
+  pub first_kept : (ls : List (List ℕ)) {f : Option ℕ} → Finds breaks1 ls f → f ≡ None → {a : Answer Verdict}
       → a ≡ gives (kmers_verdict K (keys_for ms keys) (ends ms) ls)
       → a ≡ gives (verdict K (keys_for ms₀ keys) (ends_in κ cutoff (table_of (length ms₀) keys counts)) ls)
   unfolding verdict ends_in
@@ -133,8 +133,7 @@ module _ (κ : Kind) (K cutoff : ℕ) (keys counts ms₀ : List ℕ) (t : FitTab
       (ap (λ (m : ℕ). keys_of m keys) (long κ K cutoff keys counts ms₀ t digested)) (ends_are κ K cutoff keys counts ms₀ t digested) in
       rw h.0 same
 
-pub first_broken : (K : ℕ) (ks : List ℕ) (es : List Ends) (ls : List (List ℕ)) {f : First} → Finds breaks1 ls f → {i : ℕ} → f
-    ≡ first.Label i
+pub first_broken : (K : ℕ) (ks : List ℕ) (es : List Ends) (ls : List (List ℕ)) {f : Option ℕ} → Finds breaks1 ls f → {i : ℕ} → f ≡ Some i
     → gives (no 1 i) ≡ gives (verdict K ks es ls)
 unfolding verdict
 first_broken K ks es ls g e = let h = some_found breaks1 ls g e in rw (h.0, h.1)
@@ -143,7 +142,7 @@ first_broken K ks es ls g e = let h = some_found breaks1 ls g e in rw (h.0, h.1)
 
 module _ (κ : Kind) (K cutoff n : ℕ) (keys counts text marks : List ℕ) where
   -- Judged over the first n marks; those behind stay.
-  pub first_n : n ≤ length marks → is_held (listing K text) ≡ true → {r : JudgeAnswer} {exit : List ℕ}
+  pub first_n : n ≤ length marks → is_held (listing K text) ≡ true → {r : Result (Option Broken) JudgeError} {exit : List ℕ}
       → (judge_answer r ≡ gives (verdict K (keys_for (take n marks) keys)
       (ends_in κ cutoff (table_of (length (take n marks)) keys counts)) (labels_in (listing K text))))
       × (exit ≡ replicate (length (take n marks)) 0)
@@ -166,28 +165,26 @@ module _ (κ : Kind) (K cutoff n : ℕ) (keys counts text marks : List ℕ) wher
       }
       go no_list q e = never false q refl
 
-  stays : {r : JudgeAnswer} → Judges r marks (record { answer = judge_answer r; marks = marks })
+  stays : {r : Result (Option Broken) JudgeError} → Judges r marks (record { answer = judge_answer r; marks = marks })
   stays = record { answer = refl; marks_after = refl }
 
-  module _ {r : FitAnswer} (t : fit_answer r ≡ fit_call κ K n keys counts) where
-    pub unsupported : {k : ℕ} → r ≡ UnsupportedK k → Judges (answers.UnsupportedK k) marks (judge κ K cutoff n keys counts text marks)
+  module _ {r : Result (Unit {0}) FitError} (t : fit_answer r ≡ fit_call κ K n keys counts) where
+    pub not_taken : (e : FitError) → r ≡ Err e → Judges (Err (refused_by e)) marks (judge κ K cutoff n keys counts text marks)
     unfolding judge
-    unsupported {k} e = let q = told_unsupported κ K n keys counts t e in rw (q.0, q.1) stays
+    not_taken (fits.UnsupportedK k) e = let q = told_unsupported κ K n keys counts t e in rw (q.0, q.1) stays
+    not_taken fits.Unfit e = let q = told_unfit κ K n keys counts t e in rw (q.0, q.1) stays
 
-    pub unfit : r ≡ Unfit → Judges answers.Unfit marks (judge κ K cutoff n keys counts text marks)
-    unfolding judge
-    unfit e = let q = told_unfit κ K n keys counts t e in rw (q.0, q.1) stays
-
-    module _ (e : r ≡ Fit) where
+    module _ (e : r ≡ Ok tt) where
       ok : (ok_k K ≡ true) × (fit_for κ K n keys counts ≡ true)
       ok = told_fit κ K n keys counts t e
 
-      pub wrong_cutoff : answers_for κ cutoff ≡ false → Judges answers.WrongCutoff marks (judge κ K cutoff n keys counts text marks)
+      pub wrong_cutoff : answers_for κ cutoff ≡ false
+          → Judges (Err errors.WrongCutoff) marks (judge κ K cutoff n keys counts text marks)
       unfolding judge
       wrong_cutoff a = rw (ok.0, ok.1, a) stays
 
       pub few_marks : answers_for κ cutoff ≡ true → length marks < n
-          → Judges answers.FewMarks marks (judge κ K cutoff n keys counts text marks)
+          → Judges (Err errors.FewMarks) marks (judge κ K cutoff n keys counts text marks)
       unfolding judge
       few_marks a h = rw (ok.0, ok.1, a, lt-ltb (length marks) n h) stays
 
@@ -195,24 +192,21 @@ module _ (κ : Kind) (K cutoff n : ℕ) (keys counts text marks : List ℕ) wher
         pub lent_first : FitTable K keys counts (take n marks)
         lent_first = fit_first K n keys counts marks ok.0 (fit_for_both κ K n keys counts ok.1).0 h
 
-        pub even_K : K % 2 ≡ 0 → Judges answers.EvenK marks (judge κ K cutoff n keys counts text marks)
+        pub even_K : K % 2 ≡ 0 → Judges (Err errors.EvenK) marks (judge κ K cutoff n keys counts text marks)
         unfolding judge
         even_K q = rw (ok.0, ok.1, a, le-ltb (length marks) n h, eq-eqb (K % 2) 0 q) stays
 
         module _ (q : K % 2 ≡ 0 → ⊥) {s : Bool} (told : s ≡ is_held (listing K text)) where
-          on : {z : JudgeAnswer} {exit : List ℕ} → Judges z exit (on_list κ K cutoff n keys counts text marks (listing K text))
+          pub goes_on : {z : Result (Option Broken) JudgeError} {exit : List ℕ}
+              → Judges z exit (on_list κ K cutoff n keys counts text marks (listing K text))
               → Judges z exit (judge κ K cutoff n keys counts text marks)
           unfolding judge
-          on j = rw (ok.0, ok.1, a, le-ltb (length marks) n h, ne_eqb (K % 2) 0 q) j
+          goes_on j = rw (ok.0, ok.1, a, le-ltb (length marks) n h, ne_eqb (K % 2) 0 q) j
 
-          pub no_list_lem : s ≡ false → Judges answers.NoList marks (judge κ K cutoff n keys counts text marks)
+          pub no_list_lem : s ≡ false → Judges (Err errors.NoList) marks (judge κ K cutoff n keys counts text marks)
           unfolding on_list
-          no_list_lem z = on (go (listing K text) (sym told ∙ z))
+          no_list_lem z = goes_on (go (listing K text) (sym told ∙ z))
             where
-              go : (l : Listing) → is_held l ≡ false → Judges answers.NoList marks (on_list κ K cutoff n keys counts text marks l)
+              go : (l : Listing) → is_held l ≡ false → Judges (Err errors.NoList) marks (on_list κ K cutoff n keys counts text marks l)
               go (holds ls) w = never true refl w
               go no_list w = stays
-
-          pub goes_on : {z : JudgeAnswer} {exit : List ℕ} → Judges z exit (on_list κ K cutoff n keys counts text marks (listing K text))
-              → Judges z exit (judge κ K cutoff n keys counts text marks)
-          goes_on j = on j
