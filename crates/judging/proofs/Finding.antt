@@ -9,7 +9,7 @@ use Rattle.lemmas.proofs.Tests.{choose}
 use Rattle.graph.specs.Table.{rank, stored}
 use Rattle.graph.proofs.Rank.{stored_lt}
 use Rattle.graph.proofs.Keys.{keys_length}
-use Rattle.std.specs.Prelude.{Result, Ok, Err}
+use Rattle.std.proofs.Common.{Result, Ok, Err}
 use Rattle.table.proofs.Ranked.{find_rank}
 use Rattle.directory.specs.Directory.{find_by}
 use Rattle.directory.proofs.Confirmed.{found_by}

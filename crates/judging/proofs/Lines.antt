@@ -11,6 +11,7 @@ use lib.Seq.{take-suc, drop-cons, get_or-drop, get_or-take, drop-drop, take_all,
 use mathlib.Core.Logic.{⊎_elim}
 use Rattle.lemmas.proofs.Numbers.{lt_or_ge}
 use Rattle.lemmas.proofs.Tests.{choose, never, or_first, or_second}
+use Rattle.std.specs.List.{list_all}
 use Rattle.dna.specs.Text.{bytes, among, part}
 use Rattle.rules.specs.Listing.{Listing, holds, no_list, Lists, Label, put, lines_of, is_plain, and_then, ended, labels_among, listing}
 use Rattle.rules.specs.Listing.Lists.{none, one}
@@ -161,54 +162,10 @@ module _ (K : ℕ) (text : List ℕ) where
 
 -- ---- letters
 
-pub plain_on : (label : List ℕ) (i : ℕ) → i < length label → is_plain (drop i label)
-    ≡ (among (get_or label i 0) (bytes "ACGT") && is_plain (drop (i + 1) label))
+pub plain_all : (s : List ℕ) → is_plain s ≡ list_all (λ b. among b (bytes "ACGT")) s
 unfolding is_plain
-plain_on label i h =
-    let n : suc i ≡ i + 1 = omega arith in
-    ap is_plain (drop-cons label i 0 h) ∙ ap (λ (m : ℕ). among (get_or label i 0) (bytes "ACGT") && is_plain (drop m label)) n
-
-pub plain_end : (label : List ℕ) (i : ℕ) → length label ≤ i → is_plain (drop i label) ≡ true
-unfolding is_plain
-plain_end label i h = ap is_plain (drop_past label i h)
-  where
-    drop_past : (l : List ℕ) (j : ℕ) → length l ≤ j → drop j l ≡ []
-    drop_past [] zero h = refl
-    drop_past [] (suc j) h = refl
-    drop_past (x ∷ l) zero h = absurd (omega arith)
-    drop_past (x ∷ l) (suc j) h = drop_past l j (omega arith)
-
--- A byte that is one of the four letters, and one that is none.
-pub letter_one : (b c : ℕ) → b ≡ c → among c (bytes "ACGT") ≡ true → true ≡ among b (bytes "ACGT")
-letter_one b c e h = sym (ap (λ (x : ℕ). among x (bytes "ACGT")) e ∙ h)
-
-pub letters_are : (among 65 (bytes "ACGT") ≡ true) × (among 67 (bytes "ACGT") ≡ true) × (among 71 (bytes "ACGT") ≡ true)
-    × (among 84 (bytes "ACGT") ≡ true)
-unfolding among
-letters_are = (refl, refl, refl, refl)
-
-pub letter_none : (b : ℕ) → (b ≡ 65 → ⊥) → (b ≡ 67 → ⊥) → (b ≡ 71 → ⊥) → (b ≡ 84 → ⊥) → false ≡ among b (bytes "ACGT")
-unfolding among
-letter_none b p q r s = sym (rw (ne_eqb b 65 p, ne_eqb b 67 q, ne_eqb b 71 r, ne_eqb b 84 s))
-
--- Where a line's first letter is none, or all are letters so far.
-pub plain_fails : (label : List ℕ) (i : ℕ) → i < length label → is_plain label ≡ is_plain (drop i label) → {t : Bool}
-    → t ≡ among (get_or label i 0) (bytes "ACGT") → t ≡ false → false ≡ is_plain label
-plain_fails label i h e a n =
-    let q : among (get_or label i 0) (bytes "ACGT") ≡ false = sym a ∙ n in
-    sym (e ∙ plain_on label i h ∙ rw q)
-
-pub plain_goes : (label : List ℕ) (i : ℕ) → i < length label → is_plain label ≡ is_plain (drop i label) → {t : Bool}
-    → t ≡ among (get_or label i 0) (bytes "ACGT") → t ≡ true → is_plain label ≡ is_plain (drop (i + 1) label)
-plain_goes label i h e a n =
-    let q : among (get_or label i 0) (bytes "ACGT") ≡ true = sym a ∙ n in
-    e ∙ plain_on label i h ∙ rw q
-
-pub label_short : (k : ℕ) (line : List ℕ) → length line < k → false ≡ (leb k (length line) && is_plain line)
-label_short k line h = sym (rw (lt-leb k (length line) h))
-
-pub label_long : (k : ℕ) (line : List ℕ) → k ≤ length line → {t : Bool} → t ≡ is_plain line → t ≡ (leb k (length line) && is_plain line)
-label_long k line h e = e ∙ sym (rw (le-leb k (length line) h))
+plain_all [] = refl
+plain_all (b ∷ s) = ap (λ (t : Bool). among b (bytes "ACGT") && t) (plain_all s)
 
 -- ---- the record at a place
 

@@ -7,12 +7,13 @@ use native.Mathlib.Omega.{arith}
 use borrow.Author.Tests.{ltb-true, ltb-false, lt-ltb, le-ltb, le-leb, lt-leb}
 use lib.Dec.{ltb, eqb}
 use lib.ListN.{get_or}
+use Rattle.std.proofs.Common.{Result, Ok, Err}
 use Rattle.lemmas.proofs.Tests.{choose}
 use Rattle.kmer.specs.Kmer.{ok_k, rc, canon, is_canon, forward}
 use Rattle.kmer.specs.Calls.{canon_call, reverse_call, forward_call}
-use Rattle.kmer.specs.Says.{value_of, Answers}
+use Rattle.kmer.specs.Says.{value_of, kmer_of, Answers}
 use Rattle.kmer.specs.declared.Kmer.{Kmer}
-use Rattle.kmer.specs.declared.Answered.{Answered}
+use Rattle.kmer.specs.declared.KmerError.{KmerError}
 use Rattle.kmer.proofs.Wide.{value_back}
 use Rattle.kmer.proofs.Strands.{rc_rc, canon_rc, forward_lt}
 use Rattle.kmer.proofs.Turned.{rc_lt}
@@ -24,8 +25,6 @@ use Rattle.graph.specs.Table.{rank, stored}
 use Rattle.graph.specs.Walks.{Ends, edge, leaving, entrance}
 use Rattle.laws.specs.Demand.{retained}
 use Rattle.laws.proofs.Sides.{leaving_lt}
-use Rattle.table.specs.declared.Found.{Found}
-use Rattle.table.specs.declared.Found.TheVariants.{At, Gap}
 use Rattle.directory.specs.Directory.{find_by}
 use Rattle.marks.specs.Marks.{end_in, ends}
 use Rattle.marks.proofs.Marking.{edge_is}
@@ -43,39 +42,39 @@ lesser_canon K here other x p q =
     ∙ choose (λ (z : ℕ). z ≡ min x (rc K x)) (ltb (rc K x) x) (λ e. omega (arith, ltb-true (rc K x) x e))
     (λ e. omega (arith, ltb-false (rc K x) x e))
 
--- The reverse complement of a k-mer that is packed.
-pub turned_is : (K : ℕ) → ok_k K ≡ true → (x : Kmer) {n : ℕ} → value_of x < 4 ^ K → value_of x ≡ n
-    → {y : Answered} → Answers y (reverse_call K (value_of x)) → value_of y.kmer ≡ rc K n
-turned_is K ok x l e t =
-    value_back (rc K (value_of x)) (ap (λ (a : Answered). a.kmer) (kmer_given K (value_of x) ok l (rc K (value_of x)) t)) ∙ ap (rc K) e
+-- A call that is not refused, unwrapped.
+pub unwrapped : {r : Result Kmer KmerError} {x : Kmer} {n : ℕ} → r ≡ Ok (kmer_of n) → r ≡ Ok x → value_of x ≡ n
+unwrapped {x = x} {n} p q = let e : x ≡ kmer_of n = cc in value_back n e
+
+-- The reverse complement of a k-mer.
+pub turned_is : (K : ℕ) → ok_k K ≡ true → (x : Kmer) → value_of x < 4 ^ K
+    → {r : Result Kmer KmerError} → Answers r (reverse_call K (value_of x)) → r ≡ Ok (kmer_of (rc K (value_of x)))
+turned_is K ok x l t = kmer_given K (value_of x) ok l (rc K (value_of x)) t
 
 -- ---- looking up
 
 module _ {K : ℕ} {keys ms : List ℕ} (r : Ready K keys ms) (x : Kmer) (l : value_of x < 4 ^ K)
-    {y : Answered} (turned : Answers y (reverse_call K (value_of x))) (c : Kmer) (smaller : value_of c ≡ lesser_of x y.kmer)
-    (cells : List ℕ) {f : Found} (ended : f ≡ find_by K (keys_for ms keys) cells (value_of c)) where
+    {y : Kmer} (turned : value_of y ≡ rc K (value_of x)) (c : Kmer) (smaller : value_of c ≡ lesser_of x y)
+    (cells : List ℕ) {f : Result ℕ ℕ} (ended : f ≡ find_by K (keys_for ms keys) cells (value_of c)) where
   abbrev ks : List ℕ
   ks = keys_for ms keys
 
-  other_is : value_of y.kmer ≡ rc K (value_of x)
-  other_is = turned_is K r.ok x l refl turned
-
   canon_is : value_of c ≡ canon K (value_of x)
-  canon_is = smaller ∙ lesser_canon K x y.kmer (value_of x) refl other_is
+  canon_is = smaller ∙ lesser_canon K x y (value_of x) refl turned
 
-  pub seen_at : {w : ℕ} → f ≡ At w → Sees K ks (ends ms) (value_of x) (record { here = x; other = y.kmer; mark = get_or ms w 0 })
+  pub seen_at : {w : ℕ} → f ≡ Ok w → Sees K ks (ends ms) (value_of x) (record { here = x; other = y; mark = get_or ms w 0 })
   unfolding retained
   seen_at {w} e =
       let p : (stored ks (canon K (value_of x)) ≡ true) × (rank ks (canon K (value_of x)) ≡ w) =
       rw canon_is at (at_is r cells (value_of c) ended e) in
       let q = at_lt r cells (value_of c) ended e in
-      record { below = l; here = refl; other = other_is; edges = λ s. sym (edge_is ms w q s) ∙ rw (p.0, p.1) }
+      record { below = l; here = refl; other = turned; edges = λ s. sym (edge_is ms w q s) ∙ rw (p.0, p.1) }
 
-  pub seen_gap : {w : ℕ} → f ≡ Gap w → Sees K ks (ends ms) (value_of x) (record { here = x; other = y.kmer; mark = 45 })
+  pub seen_gap : {w : ℕ} → f ≡ Err w → Sees K ks (ends ms) (value_of x) (record { here = x; other = y; mark = 45 })
   unfolding retained
   seen_gap e =
       let p : stored ks (canon K (value_of x)) ≡ false = rw canon_is at (gap_is r cells (value_of c) ended e) in
-      record { below = l; here = refl; other = other_is; edges = λ s. none s ∙ sym (rw p) }
+      record { below = l; here = refl; other = turned; edges = λ s. none s ∙ sym (rw p) }
     where
       none : (s : Side) → end_in 45 s ≡ 5
       none Front = refl
@@ -83,39 +82,18 @@ module _ {K : ℕ} {keys ms : List ℕ} (r : Ready K keys ms) (x : Kmer) (l : va
 
 -- ---- tests
 
-pub exit_front : (x : Seen) → ltb (value_of x.other) (value_of x.here) ≡ true → Front ≡ exit_of x
-exit_front x e = rw e
-
-pub exit_back : (x : Seen) → ltb (value_of x.other) (value_of x.here) ≡ false → Back ≡ exit_of x
-exit_back x e = rw e
-
 -- A roll by a base.
-pub rolled_is : (K : ℕ) (x : Kmer) → ok_k K ≡ true → value_of x < 4 ^ K → (b : ℕ) → b < 4 → {y : Answered}
-    → Answers y (forward_call K (value_of x) b)
-    → value_of y.kmer ≡ forward K (value_of x) b
-rolled_is K x ok l b h t =
-    value_back (forward K (value_of x) b) (ap (λ (a : Answered). a.kmer) (roll_given K (value_of x) ok l b (forward K (value_of x) b) h t))
+pub rolled_is : (K : ℕ) (x : Kmer) → ok_k K ≡ true → value_of x < 4 ^ K → (b : ℕ) → b < 4 → {r : Result Kmer KmerError}
+    → Answers r (forward_call K (value_of x) b) → r ≡ Ok (kmer_of (forward K (value_of x) b))
+rolled_is K x ok l b h t = roll_given K (value_of x) ok l b (forward K (value_of x) b) h t
 
 pub after_is : (K : ℕ) (x : Seen) (s : Side) → Kmers K x → {b c : ℕ} → b ≡ end_in x.mark s → end_in x.mark s < 4 → c ≡ leaving s (b % 4)
-    → {y : Answered} → Answers y (forward_call K (value_of x.here) c) → value_of y.kmer ≡ after_of K x s
+    → {r : Result Kmer KmerError} → Answers r (forward_call K (value_of x.here) c) → r ≡ Ok (kmer_of (after_of K x s))
 after_is K x s k {b} {c} e l f t =
     let q : b % 4 ≡ end_in x.mark s = omega arith in
     let g : c ≡ leaving s (end_in x.mark s) = f ∙ ap (leaving s) q in
     let m : c < 4 = subst (λ (z : ℕ). z < 4) (sym g) (leaving_lt s (end_in x.mark s) l) in
-    rolled_is K x.here k.ok k.here c m t ∙ ap (forward K (value_of x.here)) g
-
-pub leads_none : (K : ℕ) (x : Seen) (s : Side) (y : ℕ) {b : ℕ} → b ≡ end_in x.mark s → 3 < b → false ≡ leads_by K x s y
-leads_none K x s y e h = rw (le-ltb (end_in x.mark s) 4 (omega arith))
-
-pub leads_some : (K : ℕ) (x : Seen) (s : Side) (y z : ℕ) {b : ℕ} {t : Bool} → b ≡ end_in x.mark s → b ≤ 3 → z ≡ after_of K x s
-    → t ≡ eqb z y → t ≡ leads_by K x s y
-leads_some K x s y z e h f g = g ∙ ap (λ (n : ℕ). eqb n y) f ∙ sym (rw (lt-ltb (end_in x.mark s) 4 (omega arith)))
-
-pub lesser_other : (here other : Kmer) → ltb (value_of other) (value_of here) ≡ true → value_of other ≡ lesser_of here other
-lesser_other here other e = rw e
-
-pub lesser_here : (here other : Kmer) → ltb (value_of other) (value_of here) ≡ false → value_of here ≡ lesser_of here other
-lesser_here here other e = rw e
+    rolled_is K x.here k.ok k.here c m t ∙ ap (λ (z : ℕ). Ok (kmer_of (forward K (value_of x.here) z))) g
 
 pub step_no : (K : ℕ) (x y : Seen) {s : Side} {r : Bool} → s ≡ exit_of x → r ≡ leads_by K x s (value_of y.here) → r ≡ false
     → false ≡ step_by K x y
@@ -131,12 +109,9 @@ step_on K x y e q h ez et eu eb =
 pub kmers_turned : {K : ℕ} {y z : Seen} → z ≡ turned_of y → Kmers K y → Kmers K z
 kmers_turned e k = rw e (record { ok = k.ok; here = k.other; other = k.here })
 
-pub one_base_is : (K : ℕ) (x : Kmer) → ok_k K ≡ true → value_of x < 4 ^ K → {b : ℕ} → b ≡ get_or x.words 0 0 % 4 % 4
-    → {y : Answered} → Answers y (forward_call K (value_of x) b) → {t : Bool} → t ≡ eqb (value_of y.kmer) (value_of x) → t
-    ≡ is_one_base K (value_of x)
-one_base_is K x ok l {b} e a q =
-    let m : b ≡ value_of x % 4 = omega arith in
-    q ∙ ap (λ (n : ℕ). eqb n (value_of x)) (rolled_is K x ok l b (omega arith) a ∙ ap (forward K (value_of x)) m)
+-- By its own last base.
+pub last_is : (x : Kmer) → get_or x.words 0 0 % 4 ≡ value_of x % 4
+last_is x = omega arith
 
 -- ---- what the tests tell of a k-mer that was looked up
 
@@ -222,28 +197,3 @@ module _ {K : ℕ} {ks : List ℕ} {es : List Ends} (f x : Seen) (n m : ℕ) (gf
         let ct : t ≡ canon K n = et ∙ sees_canon gf in
         ed ∙ ap₂ (λ (u v : ℕ). apart K u v t) cp cq ∙ ap (apart K (canon K m) (canon K (after K ks es m (exit K ks es m)))) ct
         ∙ sym (rw e)
-
-module _ (K c d f : ℕ) {a : Bool} (ea : a ≡ eqb d c) where
-  pub apart_same : a ≡ true → false ≡ apart K c d f
-  apart_same h = let e : eqb d c ≡ true = sym ea ∙ h in rw e
-
-  module _ (na : a ≡ false) {b : Bool} (eb : b ≡ is_one_base K c) where
-    differ : eqb d c ≡ false
-    differ = sym ea ∙ na
-
-    pub apart_first : b ≡ true → false ≡ apart K c d f
-    apart_first h = let e : is_one_base K c ≡ true = sym eb ∙ h in rw (differ, e)
-
-    module _ (nb : b ≡ false) {g : Bool} (eg : g ≡ is_one_base K d) where
-      plain : is_one_base K c ≡ false
-      plain = sym eb ∙ nb
-
-      pub apart_second : g ≡ true → false ≡ apart K c d f
-      apart_second h = let e : is_one_base K d ≡ true = sym eg ∙ h in rw (differ, plain, e)
-
-      pub apart_last : g ≡ false → {h : Bool} → h ≡ eqb d f → not h ≡ apart K c d f
-      apart_last ng eh = let e : is_one_base K d ≡ false = sym eg ∙ ng in ap not eh ∙ sym (rw (differ, plain, e))
-
--- The canonical k-mer of a window.
-pub canon_packed : (K x : ℕ) → ok_k K ≡ true → x < 4 ^ K → {c : Answered} → Answers c (canon_call K x) → value_of c.kmer ≡ canon K x
-canon_packed K x ok l p = value_back (canon K x) (ap (λ (a : Answered). a.kmer) (kmer_given K x ok l (canon K x) p))

@@ -6,21 +6,18 @@ use mathlib.Core.List.{List}
 use native.Mathlib.Omega.{arith}
 use borrow.Author.Tests.{ltb-true, ltb-false, le-leb, lt-leb, not-false}
 use lib.Dec.{ltb}
-use lib.ListN.{length, get_or, set, take, drop}
+use lib.ListN.{get_or, set}
 use Rattle.lemmas.proofs.Tests.{both, never, or_first}
-use Rattle.kmer.specs.Kmer.{ok_k, rc, canon, is_canon}
-use Rattle.kmer.specs.Calls.{pack_call, reverse_call}
-use Rattle.kmer.specs.Says.{value_of, Answers}
-use Rattle.kmer.specs.declared.Answered.{Answered}
-use Rattle.kmer.proofs.Windows.{Bases}
+use Rattle.kmer.specs.Kmer.{rc, canon, is_canon}
+use Rattle.kmer.specs.Says.{value_of}
+use Rattle.kmer.specs.declared.Kmer.{Kmer}
 use Rattle.state.specs.declared.Side.{Side}
 use Rattle.state.specs.declared.Side.TheVariants.{Front, Back}
 use Rattle.state.specs.Counted.{opposite}
 use Rattle.graph.specs.Table.{rank, stored}
 use Rattle.graph.specs.Sightings.{window}
-use Rattle.graph.proofs.Packed.{window_packed, packed_small}
 use Rattle.graph.specs.Walks.{Ends, edge, isolated, visited, leaving}
-use Rattle.std.specs.Prelude.{Result, Ok, Err}
+use Rattle.std.proofs.Common.{Result, Ok, Err}
 use Rattle.directory.specs.Directory.{find_by}
 use Rattle.marks.specs.Marks.{end_in, ends, visits}
 use Rattle.marks.proofs.Marking.{edge_is, visits_marking, ends_marking}
@@ -28,7 +25,6 @@ use Rattle.laws.specs.Demand.{retained}
 use Rattle.rules.specs.Verdict.{is_live, exit}
 use Rattle.marks.specs.Ready.{keys_for, Ready}
 use Rattle.judging.proofs.Finding.{at_is, gap_is, at_lt}
-use Rattle.judging.proofs.Looked.{turned_is}
 use Rattle.judging.specs.declared.Tested.{Tested}
 use Rattle.judging.specs.declared.Tested.TheVariants as tested
 use Rattle.judging.specs.Standing.{followed, preceded, joined_by, is_misplaced, Marked, TestsKmer, TestsWindow}
@@ -126,25 +122,21 @@ window_tested K keys ms label o {c} {s} {r} {after} t ec es =
     }
 
 -- A window that was read, turned and compared with its other strand, of which the smaller was tested.
-module _ (K : ℕ) (ok : ok_k K ≡ true) (keys ms label : List ℕ) (bases : Bases label) (o : ℕ) (h : o + K ≤ length label) {x y : Answered}
-    (read : Answers x (pack_call K (take K (drop o label)))) (turned : Answers y (reverse_call K (value_of x.kmer)))
-    {less : Bool} (compared : less ≡ ltb (value_of y.kmer) (value_of x.kmer)) where
-  here : value_of x.kmer ≡ window K label o
-  here = window_packed K ok label bases o h read
-
-  other : value_of y.kmer ≡ rc K (window K label o)
-  other = turned_is K ok x.kmer (packed_small K ok label bases o h read) here turned
+module _ (K : ℕ) (keys ms label : List ℕ) (o : ℕ) {x y : Kmer} (here : value_of x ≡ window K label o)
+    (turned : value_of y ≡ rc K (value_of x)) {less : Bool} (compared : less ≡ ltb (value_of y) (value_of x)) where
+  other : value_of y ≡ rc K (window K label o)
+  other = turned ∙ ap (rc K) here
 
   by_strands : ltb (rc K (window K label o)) (window K label o) ≡ less
   by_strands = sym (compared ∙ ap₂ ltb other here)
 
-  pub turned_tested : less ≡ true → {r : Tested} {after : List ℕ} → TestsKmer K keys ms label o (value_of y.kmer) Front r after
+  pub turned_tested : less ≡ true → {r : Tested} {after : List ℕ} → TestsKmer K keys ms label o (value_of y) Front r after
       → TestsWindow K keys ms label o r after
   turned_tested q t =
       let told = turned_smaller K (keys_for ms keys) (ends ms) (window K label o) (by_strands ∙ q) in
       window_tested K keys ms label o t (other ∙ told.0) told.1
 
-  pub here_tested : less ≡ false → {r : Tested} {after : List ℕ} → TestsKmer K keys ms label o (value_of x.kmer) Back r after
+  pub here_tested : less ≡ false → {r : Tested} {after : List ℕ} → TestsKmer K keys ms label o (value_of x) Back r after
       → TestsWindow K keys ms label o r after
   here_tested q t =
       let told = here_smaller K (keys_for ms keys) (ends ms) (window K label o) (by_strands ∙ q) in

@@ -7,7 +7,7 @@ use mathlib.Core.List.{List, [], ◌∷◌}
 use native.Mathlib.Omega.{arith}
 use borrow.Author.Tests.{ne_eqb, ltb-false, lt-ltb, le-ltb}
 use lib.Dec.{ltb}
-use Rattle.std.specs.Prelude.{Option, Some, None, Ok, Err, IfSome}
+use Rattle.std.proofs.Common.{Option, Some, None, Ok, Err, IfSome}
 use lib.ListN.{length, drop, replicate, length-drop}
 use Rattle.lemmas.proofs.Tests.{choose, never}
 use Rattle.lemmas.proofs.Numbers.{lt_or_ge}

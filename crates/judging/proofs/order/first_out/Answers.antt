@@ -3,7 +3,7 @@ use Rattle.judging.proofs.Passes.{ordering_start, ordering_record, ordering_few,
 use Rattle.judging.proofs.order.first_out.Goals as goal
 
 pub loop-at-init : goal.loop-at-init
-loop-at-init c = ordering_start c.args.text.now _ (omega arith)
+loop-at-init c = ordering_start c.args.text.now
 
 pub label_at-label-requires : goal.label_at-label-requires
 label_at-label-requires c =
@@ -14,7 +14,7 @@ label_at-label-requires c =
 pub is_out-requires : goal.is_out-requires
 is_out-requires c =
     let l = c.loop-at in
-    (l.invariant.0, c.label_at-label.ensures.ordered, omega (arith, c.label_at-label.ensures.within))
+    (l.invariant.ordered, c.label_at-label.ensures.ordered, omega (arith, c.label_at-label.ensures.within))
 
 pub returns-then-is_out : goal.returns-then-is_out
 returns-then-is_out c =

@@ -1,7 +1,10 @@
 use mathlib.Core.Path.{refl, sym, ◌∙◌}
+use Prim.Native.Nat.{◌<◌}
 use native.Mathlib.Omega.{arith}
+use lib.ListN.{length}
 use Rattle.judging.proofs.Lines.{held_end, held_no_line, held_no_second, held_no_header, held_no_label, held_on}
 use Rattle.judging.proofs.places.is_list.Goals as goal
+use Rattle.judging.proofs.places.is_list.Goals.{then-end-text-via-then-end-text, then-end-text-via-else-end-text+then-text-at-ne62, then-end-text-via-else-end-text+else-text-at-ne62+then-not-is_label}
 
 pub loop-at-init : goal.loop-at-init
 loop-at-init c = (omega arith, refl)
@@ -19,25 +22,6 @@ returns-then-head-text c =
 pub line_end-end-requires : goal.line_end-end-requires
 line_end-end-requires c = omega (arith, c.line_end-head.ensures.within, c.if-head-text.false)
 
-pub returns-then-end-text : goal.returns-then-end-text
-returns-then-end-text c =
-    let l = c.loop-at in
-    let a = c.args in
-    let g = c.line_end-head.ensures in
-    sym (l.invariant.1 ∙ held_no_second a.k a.text.now l.at c.line_end-head.result g
-    (omega (arith, g.within, c.if-head-text.false)) c.line_end-end.result
-    c.line_end-end.ensures c.if-end-text.true)
-
-pub returns-then-text-at-ne62 : goal.returns-then-text-at-ne62
-returns-then-text-at-ne62 c =
-    let l = c.loop-at in
-    let a = c.args in
-    let g = c.line_end-head.ensures in
-    let k = c.line_end-end.ensures in
-    sym (l.invariant.1 ∙ held_no_header a.k a.text.now l.at c.line_end-head.result g
-    (omega (arith, g.within, c.if-head-text.false)) c.line_end-end.result k
-    (omega (arith, k.within, c.if-end-text.false)) c.if-text-at-ne62.true)
-
 pub slice_bounds-is_label-count : goal.slice_bounds-is_label-count
 slice_bounds-is_label-count c = omega (arith, c.line_end-end.ensures.behind)
 
@@ -47,16 +31,23 @@ slice_bounds-is_label-start c = omega (arith, c.line_end-end.ensures.behind, c.l
 pub slice_bounds-is_label-end : goal.slice_bounds-is_label-end
 slice_bounds-is_label-end c = omega (arith, c.line_end-end.ensures.behind, c.line_end-end.ensures.within)
 
-pub returns-then-not-is_label : goal.returns-then-not-is_label
-returns-then-not-is_label c =
+pub returns-then-end-text : goal.returns-then-end-text
+returns-then-end-text c =
     let l = c.loop-at in
     let a = c.args in
     let g = c.line_end-head.ensures in
     let k = c.line_end-end.ensures in
-    sym (l.invariant.1 ∙ held_no_label a.k a.text.now l.at c.line_end-head.result g
-    (omega (arith, g.within, c.if-head-text.false)) c.line_end-end.result k
-    (omega (arith, k.within, c.if-end-text.false)) c.if-text-at-ne62.false c.is_label.ensures
-    c.if-not-is_label.true)
+    let h : c.line_end-head.result < length a.text.now = omega (arith, g.within, c.if-head-text.false) in
+    elim c.then-end-text.branch [
+      | then-end-text-via-then-end-text w ↦
+          sym (l.invariant.1 ∙ held_no_second a.k a.text.now l.at c.line_end-head.result g h c.line_end-end.result k w.if-end-text.true)
+      | then-end-text-via-else-end-text+then-text-at-ne62 w ↦
+          sym (l.invariant.1 ∙ held_no_header a.k a.text.now l.at c.line_end-head.result g h c.line_end-end.result k
+          (omega (arith, k.within, w.if-end-text.false)) w.if-text-at-ne62.true)
+      | then-end-text-via-else-end-text+else-text-at-ne62+then-not-is_label w ↦
+          sym (l.invariant.1 ∙ held_no_label a.k a.text.now l.at c.line_end-head.result g h c.line_end-end.result k
+          (omega (arith, k.within, w.if-end-text.false)) w.if-text-at-ne62.false w.is_label.ensures w.if-not-is_label.true)
+    ]
 
 pub overflow_add-at : goal.overflow_add-at
 overflow_add-at c =
