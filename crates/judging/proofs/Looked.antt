@@ -1,16 +1,16 @@
 -- A k-mer that was looked up, and what its tests tell. Assumes nothing.
-use Prim.Native.Nat.{ℕ, ◌%◌, ◌^◌, ◌≤◌, ◌<◌, min}
+use Prim.Native.Nat.{ℕ, ◌+◌, ◌-◌, ◌%◌, ◌^◌, ◌≤◌, ◌<◌, min}
 use mathlib.Core.Path.{◌≡◌, refl, sym, ap, ap₂, ◌∙◌, subst}
 use mathlib.Core.Bool.{Bool, true, false, cond, not, ◌&&◌}
 use mathlib.Core.List.{List}
 use native.Mathlib.Omega.{arith}
 use borrow.Author.Tests.{ltb-true, ltb-false, lt-ltb, le-ltb, le-leb, lt-leb}
 use lib.Dec.{ltb, eqb}
-use lib.ListN.{get_or}
+use lib.ListN.{length, get_or, take, drop}
 use Rattle.std.proofs.Common.{Result, Ok, Err}
 use Rattle.lemmas.proofs.Tests.{choose}
 use Rattle.kmer.specs.Kmer.{ok_k, rc, canon, is_canon, forward}
-use Rattle.kmer.specs.Calls.{canon_call, reverse_call, forward_call}
+use Rattle.kmer.specs.Calls.{pack_call, reverse_call, forward_call}
 use Rattle.kmer.specs.Says.{value_of, kmer_of, Answers}
 use Rattle.kmer.specs.declared.Kmer.{Kmer}
 use Rattle.kmer.specs.declared.KmerError.{KmerError}
@@ -21,7 +21,11 @@ use Rattle.kmer.proofs.Given.{kmer_given, roll_given}
 use Rattle.state.specs.declared.Side.{Side}
 use Rattle.state.specs.declared.Side.TheVariants.{Front, Back}
 use Rattle.state.specs.Counted.{opposite}
+use Rattle.kmer.proofs.Windows.{Bases}
 use Rattle.graph.specs.Table.{rank, stored}
+use Rattle.graph.specs.Sightings.{window}
+use Rattle.graph.proofs.Adding.{window_lt}
+use Rattle.graph.proofs.Packed.{window_packed}
 use Rattle.graph.specs.Walks.{Ends, edge, leaving, entrance}
 use Rattle.laws.specs.Demand.{retained}
 use Rattle.laws.proofs.Sides.{leaving_lt}
@@ -51,10 +55,24 @@ pub turned_is : (K : ℕ) → ok_k K ≡ true → (x : Kmer) → value_of x < 4 
     → {r : Result Kmer KmerError} → Answers r (reverse_call K (value_of x)) → r ≡ Ok (kmer_of (rc K (value_of x)))
 turned_is K ok x l t = kmer_given K (value_of x) ok l (rc K (value_of x)) t
 
+-- A window packed from its own part of a label.
+module _ (K : ℕ) (ok : ok_k K ≡ true) (label : List ℕ) (bases : Bases label) (o : ℕ) (h : o + K ≤ length label)
+    {r : Result Kmer KmerError} (read : Answers r (pack_call K (take (o + K - o) (drop o label)))) where
+  pub window_read : r ≡ Ok (kmer_of (window K label o))
+  window_read =
+      let e : o + K - o ≡ K = omega arith in
+      window_packed K ok label bases o h (rw e at read)
+
+  pub window_value : {x : Kmer} → r ≡ Ok x → value_of x ≡ window K label o
+  window_value q = unwrapped window_read q
+
+  pub window_small : {x : Kmer} → r ≡ Ok x → value_of x < 4 ^ K
+  window_small q = rw (window_value q) (window_lt K label o bases h)
+
 -- ---- looking up
 
 module _ {K : ℕ} {keys ms : List ℕ} (r : Ready K keys ms) (x : Kmer) (l : value_of x < 4 ^ K)
-    {y : Kmer} (turned : value_of y ≡ rc K (value_of x)) (c : Kmer) (smaller : value_of c ≡ lesser_of x y)
+    (y : Kmer) (turned : value_of y ≡ rc K (value_of x)) (c : Kmer) (smaller : value_of c ≡ lesser_of x y)
     (cells : List ℕ) {f : Result ℕ ℕ} (ended : f ≡ find_by K (keys_for ms keys) cells (value_of c)) where
   abbrev ks : List ℕ
   ks = keys_for ms keys
@@ -109,9 +127,13 @@ step_on K x y e q h ez et eu eb =
 pub kmers_turned : {K : ℕ} {y z : Seen} → z ≡ turned_of y → Kmers K y → Kmers K z
 kmers_turned e k = rw e (record { ok = k.ok; here = k.other; other = k.here })
 
--- By its own last base.
-pub last_is : (x : Kmer) → get_or x.words 0 0 % 4 ≡ value_of x % 4
-last_is x = omega arith
+-- A roll by its own last base.
+pub one_base_is : (K : ℕ) (x : Kmer) → ok_k K ≡ true → value_of x < 4 ^ K → {b : ℕ} → b ≡ min (get_or x.words 0 0 % 4) 5
+    → {r : Result Kmer KmerError} → Answers r (forward_call K (value_of x) b)
+    → r ≡ Ok (kmer_of (forward K (value_of x) (value_of x % 4)))
+one_base_is K x ok l {b} e a =
+    let m : b ≡ value_of x % 4 = omega arith in
+    rolled_is K x ok l b (omega arith) a ∙ ap (λ (z : ℕ). Ok (kmer_of (forward K (value_of x) z))) m
 
 -- ---- what the tests tell of a k-mer that was looked up
 
@@ -183,9 +205,9 @@ module _ {K : ℕ} {ks : List ℕ} {es : List Ends} (f x : Seen) (n m : ℕ) (gf
     step_is : r ≡ is_step K ks es m (after K ks es m (exit K ks es m))
     step_is = er ∙ sees_step gx gy ∙ ap (is_step K ks es m) (after_value z ez)
 
-    pub loose_no : r ≡ false → false ≡ loose_end K ks es n m
+    pub loose_no : r ≡ false → r ≡ loose_end K ks es n m
     unfolding loose_end
-    loose_no h = let e : is_step K ks es m (after K ks es m (exit K ks es m)) ≡ false = sym step_is ∙ h in rw e
+    loose_no h = let e : is_step K ks es m (after K ks es m (exit K ks es m)) ≡ false = sym step_is ∙ h in h ∙ sym (rw e)
 
     pub loose_on : r ≡ true → {p q t : ℕ} → p ≡ lesser_of x.here x.other → q ≡ lesser_of y.here y.other → t
         ≡ lesser_of f.here f.other → {d : Bool} → d ≡ apart K p q t → d ≡ loose_end K ks es n m

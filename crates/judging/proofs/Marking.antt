@@ -122,7 +122,7 @@ window_tested K keys ms label o {c} {s} {r} {after} t ec es =
     }
 
 -- A window that was read, turned and compared with its other strand, of which the smaller was tested.
-module _ (K : ℕ) (keys ms label : List ℕ) (o : ℕ) {x y : Kmer} (here : value_of x ≡ window K label o)
+module _ (K : ℕ) (keys ms label : List ℕ) (o : ℕ) (x y : Kmer) (here : value_of x ≡ window K label o)
     (turned : value_of y ≡ rc K (value_of x)) {less : Bool} (compared : less ≡ ltb (value_of y) (value_of x)) where
   other : value_of y ≡ rc K (window K label o)
   other = turned ∙ ap (rc K) here

@@ -278,11 +278,12 @@ module _ {K : ℕ} {keys ms₀ text ms : List ℕ} {done : List (List ℕ)} {goo
           noted = note;
         }
 
-        pub placing_bad : is_bad r ≡ true → Placing K keys ms₀ text after (label2 ∷ done) good (i + 1) (e + 1)
-        placing_bad b =
+        pub placing_bad : is_bad r ≡ true → {n : ℕ} → n ≡ good → Placing K keys ms₀ text after (label2 ∷ done) n (i + 1) (e + 1)
+        placing_bad b is =
             let z : first_of test3 done (labels_in (listing K (drop at text))) ≡ 0 = behind3
             ∙ first_here test3 done label2 _ (sym stepped3 ∙ b) in
-            going_on good (omega (arith, p.fewer)) (p.noted ∙ stays z ∙ sym (kept _ (lt-ltb good (i + 1) (omega (arith, p.fewer)))))
+            subst (λ (n : ℕ). Placing K keys ms₀ text after (label2 ∷ done) n (i + 1) (e + 1)) (sym is)
+            (going_on good (omega (arith, p.fewer)) (p.noted ∙ stays z ∙ sym (kept _ (lt-ltb good (i + 1) (omega (arith, p.fewer))))))
           where
             kept : {t : Bool} {v : ℕ} (w : ℕ) → t ≡ true → cond t v w ≡ v
             kept w h = rw h

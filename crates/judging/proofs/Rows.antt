@@ -130,9 +130,9 @@ module _ (K : ℕ) (ok : ok_k K ≡ true) (label : List ℕ) (p : Label K label)
         ea (window K label 0) (window K label (length label - K)) gf gl
         ∙ sym (ap₂ (loose_end K ks es) (label_first K label h) (label_last K label h))
 
-    pub end_loose : a ≡ true → true ≡ breaks4 K ks es [] label
+    pub end_loose : a ≡ true → a ≡ breaks4 K ks es [] label
     unfolding breaks4
-    end_loose h = let e : loose_end K ks es (get_or (windows_of K label) 0 0) (last_of (windows_of K label)) ≡ true = sym one_end ∙ h in rw e
+    end_loose h = let e : loose_end K ks es (get_or (windows_of K label) 0 0) (last_of (windows_of K label)) ≡ true = sym one_end ∙ h in h ∙ sym (rw e)
 
     pub end_other : a ≡ false → {f x : Seen} → f ≡ turned_of last → x ≡ turned_of first
         → {b : Bool} → ((n m : ℕ) → Sees K ks es n f → Sees K ks es m x → b ≡ loose_end K ks es n m) → b ≡ breaks4 K ks es [] label

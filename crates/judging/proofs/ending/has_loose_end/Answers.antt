@@ -29,12 +29,8 @@ see_window-last-requires c =
 
 pub is_loose-requires : goal.is_loose-requires
 is_loose-requires c =
-    let a = c.args in (
-      c.requires.0,
-      sees_kmers c.requires.0.ok c.see_window-first.ensures,
-      sees_kmers c.requires.0.ok
-          c.see_window-last.ensures,
-    )
+    let ok = c.requires.0.ok in
+    (c.requires.0, sees_kmers ok c.see_window-first.ensures, sees_kmers ok c.see_window-last.ensures)
 
 pub returns-then-is_loose : goal.returns-then-is_loose
 returns-then-is_loose c =
@@ -43,20 +39,18 @@ returns-then-is_loose c =
     (ends a.marks.now) c.see_window-first.ensures c.see_window-last.ensures
     c.is_loose.ensures c.if-is_loose.true
 
-pub is_loose-requires-2 : goal.is_loose-requires-2
-is_loose-requires-2 c =
-    let a = c.args in (
+pub is_loose-requires-else-is_loose : goal.is_loose-requires-else-is_loose
+is_loose-requires-else-is_loose c =
+    let ok = c.requires.0.ok in (
       c.requires.0,
-      kmers_turned c.turned-f.ensures
-          (sees_kmers c.requires.0.ok c.see_window-last.ensures),
-      kmers_turned c.turned-x.ensures
-          (sees_kmers c.requires.0.ok c.see_window-first.ensures),
+      kmers_turned c.turned.ensures (sees_kmers ok c.see_window-last.ensures),
+      kmers_turned c.turned-else-is_loose.ensures (sees_kmers ok c.see_window-first.ensures),
     )
 
-pub returns : goal.returns
-returns c =
+pub returns-else-is_loose : goal.returns-else-is_loose
+returns-else-is_loose c =
     let a = c.args in
     end_other a.k c.requires.0.ok a.label.now c.requires.1 (keys_for a.marks.now a.keys.now)
     (ends a.marks.now) c.see_window-first.ensures c.see_window-last.ensures
-    c.is_loose.ensures c.if-is_loose.false c.turned-f.ensures
-    c.turned-x.ensures c.is_loose-2.ensures
+    c.is_loose.ensures c.if-is_loose.false c.turned.ensures
+    c.turned-else-is_loose.ensures c.is_loose-else-is_loose.ensures

@@ -1,8 +1,17 @@
 -- The k-mer rolled by its edge. Assumes nothing.
-use Rattle.judging.proofs.Looked.{after_is}
+use mathlib.Core.Path.{ap}
+use Rattle.std.proofs.Common.{is_ok}
+use Rattle.judging.proofs.Looked.{unwrapped, after_is}
 use Rattle.judging.proofs.seeing.after.Goals as goal
+
+pub unwrap-requires : goal.unwrap-requires
+unwrap-requires c =
+    let a = c.args in
+    ap is_ok (after_is a.k a.x a.side c.requires.0 c.edge_in.ensures c.requires.1
+    c.leaving_base-base.ensures c.roll_forward.ensures)
 
 pub returns : goal.returns
 returns c =
-    after_is c.args.k c.args.x c.args.side c.requires.0 c.edge_in.ensures c.requires.1
-    c.leaving_base-base.ensures c.roll_forward.ensures
+    let a = c.args in
+    unwrapped (after_is a.k a.x a.side c.requires.0 c.edge_in.ensures c.requires.1
+    c.leaving_base-base.ensures c.roll_forward.ensures) c.unwrap.ensures

@@ -1,22 +1,28 @@
 -- Where the smaller strand is stored, its mark. Assumes nothing.
+use mathlib.Core.Path.{ap}
+use Rattle.std.proofs.Common.{is_ok}
 use Rattle.kmer.specs.Says.{value_of}
 use Rattle.judging.proofs.Finding.{at_lt}
-use Rattle.judging.proofs.Looked.{seen_at, seen_gap}
+use Rattle.judging.proofs.Looked.{turned_is, unwrapped, seen_at, seen_gap}
 use Rattle.judging.proofs.seeing.see.Goals as goal
 
+pub unwrap-y-requires : goal.unwrap-y-requires
+unwrap-y-requires c =
+    let a = c.args in ap is_ok (turned_is a.k c.requires.0.ok a.x c.requires.1 c.reverse_complement.ensures)
+
 pub bounds-marks-v : goal.bounds-marks-v
-bounds-marks-v c = at_lt c.requires.0 c.args.directory.now (value_of c.lesser-c.result) c.find.ensures c.in-At.is
+bounds-marks-v c = at_lt c.requires.0 c.args.directory.now (value_of c.lesser.result) c.find.ensures c.in-Ok.is
 
-pub returns-in-At : goal.returns-in-At
-returns-in-At c =
+pub returns-in-Ok : goal.returns-in-Ok
+returns-in-Ok c =
     let a = c.args in
-    seen_at c.requires.0 a.x c.requires.1 c.reverse_complement.ensures c.lesser-c.result c.lesser-c.ensures
-    a.directory.now c.find.ensures
-    c.in-At.is
+    let e = turned_is a.k c.requires.0.ok a.x c.requires.1 c.reverse_complement.ensures in
+    seen_at c.requires.0 a.x c.requires.1 _ (unwrapped e c.unwrap-y.ensures) c.lesser.result c.lesser.ensures
+    a.directory.now c.find.ensures c.in-Ok.is
 
-pub returns-in-Gap : goal.returns-in-Gap
-returns-in-Gap c =
+pub returns-in-Err : goal.returns-in-Err
+returns-in-Err c =
     let a = c.args in
-    seen_gap c.requires.0 a.x c.requires.1 c.reverse_complement.ensures c.lesser-c.result c.lesser-c.ensures
-    a.directory.now c.find.ensures
-    c.in-Gap.is
+    let e = turned_is a.k c.requires.0.ok a.x c.requires.1 c.reverse_complement.ensures in
+    seen_gap c.requires.0 a.x c.requires.1 _ (unwrapped e c.unwrap-y.ensures) c.lesser.result c.lesser.ensures
+    a.directory.now c.find.ensures c.in-Err.is

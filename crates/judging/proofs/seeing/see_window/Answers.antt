@@ -1,22 +1,20 @@
 -- The window is packed from its own part of the label. Assumes nothing.
-use mathlib.Core.Path.{◌≡◌}
-use Prim.Native.Nat.{◌+◌, ◌-◌}
-use native.Mathlib.Omega.{arith}
-use Rattle.graph.proofs.Packed.{window_packed, packed_small}
+use mathlib.Core.Path.{ap}
+use Rattle.std.proofs.Common.{is_ok}
+use Rattle.judging.proofs.Looked.{window_read, window_value, window_small}
 use Rattle.judging.proofs.seeing.see_window.Goals as goal
+
+pub unwrap-x-requires : goal.unwrap-x-requires
+unwrap-x-requires c =
+    let a = c.args in
+    ap is_ok (window_read a.k c.requires.0.ok a.label.now c.requires.1 a.o c.requires.2 c.from_ascii.ensures)
 
 pub see-requires : goal.see-requires
 see-requires c =
     let a = c.args in
-    let e : a.o + a.k - a.o ≡ a.k = omega arith in (
-      c.requires.0,
-      packed_small a.k c.requires.0.ok a.label.now c.requires.1 a.o c.requires.2
-          (rw e at c.from_ascii.ensures),
-    )
+    (c.requires.0, window_small a.k c.requires.0.ok a.label.now c.requires.1 a.o c.requires.2 c.from_ascii.ensures c.unwrap-x.ensures)
 
 pub returns : goal.returns
 returns c =
     let a = c.args in
-    let e : a.o + a.k - a.o ≡ a.k = omega arith in
-    rw (window_packed a.k c.requires.0.ok a.label.now c.requires.1 a.o c.requires.2
-    (rw e at c.from_ascii.ensures)) at c.see.ensures
+    rw (window_value a.k c.requires.0.ok a.label.now c.requires.1 a.o c.requires.2 c.from_ascii.ensures c.unwrap-x.ensures) at c.see.ensures

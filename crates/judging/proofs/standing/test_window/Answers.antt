@@ -1,22 +1,37 @@
 -- The smaller strand is looked up. Assumes nothing.
-use mathlib.Core.Path.{◌≡◌}
-use Prim.Native.Nat.{◌+◌, ◌-◌}
-use native.Mathlib.Omega.{arith}
+use mathlib.Core.Path.{ap}
+use Rattle.std.proofs.Common.{is_ok}
+use Rattle.judging.proofs.Looked.{turned_is, unwrapped, window_read, window_value, window_small}
 use Rattle.judging.proofs.Marking.{turned_tested, here_tested}
 use Rattle.judging.proofs.standing.test_window.Goals as goal
+
+pub unwrap-x-requires : goal.unwrap-x-requires
+unwrap-x-requires c =
+    let a = c.args in
+    ap is_ok (window_read a.k c.requires.0.ok a.label.now c.requires.1 a.o c.requires.2 c.from_ascii.ensures)
+
+pub unwrap-y-requires : goal.unwrap-y-requires
+unwrap-y-requires c =
+    let a = c.args in
+    let s = window_small a.k c.requires.0.ok a.label.now c.requires.1 a.o c.requires.2 c.from_ascii.ensures c.unwrap-x.ensures in
+    ap is_ok (turned_is a.k c.requires.0.ok c.unwrap-x.result s c.reverse_complement.ensures)
 
 pub returns-then-is_less : goal.returns-then-is_less
 returns-then-is_less c =
     let a = c.args in
-    let e : a.o + a.k - a.o ≡ a.k = omega arith in
-    turned_tested a.k c.requires.0.ok a.keys.now a.marks.now a.label.now c.requires.1 a.o c.requires.2
-    (rw e at c.from_ascii.ensures) c.reverse_complement.ensures c.is_less.ensures
-    c.if-is_less.true c.test_kmer.ensures
+    let ok = c.requires.0.ok in
+    let v = window_value a.k ok a.label.now c.requires.1 a.o c.requires.2 c.from_ascii.ensures c.unwrap-x.ensures in
+    let s = window_small a.k ok a.label.now c.requires.1 a.o c.requires.2 c.from_ascii.ensures c.unwrap-x.ensures in
+    let t = turned_is a.k ok c.unwrap-x.result s c.reverse_complement.ensures in
+    turned_tested a.k a.keys.now a.marks.now a.label.now a.o c.unwrap-x.result c.unwrap-y.result v (unwrapped t c.unwrap-y.ensures)
+    c.is_less.ensures c.if-is_less.true c.test_kmer.ensures
 
-pub returns : goal.returns
-returns c =
+pub returns-else-is_less : goal.returns-else-is_less
+returns-else-is_less c =
     let a = c.args in
-    let e : a.o + a.k - a.o ≡ a.k = omega arith in
-    here_tested a.k c.requires.0.ok a.keys.now a.marks.now a.label.now c.requires.1 a.o c.requires.2
-    (rw e at c.from_ascii.ensures) c.reverse_complement.ensures c.is_less.ensures
-    c.if-is_less.false c.test_kmer-2.ensures
+    let ok = c.requires.0.ok in
+    let v = window_value a.k ok a.label.now c.requires.1 a.o c.requires.2 c.from_ascii.ensures c.unwrap-x.ensures in
+    let s = window_small a.k ok a.label.now c.requires.1 a.o c.requires.2 c.from_ascii.ensures c.unwrap-x.ensures in
+    let t = turned_is a.k ok c.unwrap-x.result s c.reverse_complement.ensures in
+    here_tested a.k a.keys.now a.marks.now a.label.now a.o c.unwrap-x.result c.unwrap-y.result v (unwrapped t c.unwrap-y.ensures)
+    c.is_less.ensures c.if-is_less.false c.test_kmer-else-is_less.ensures

@@ -8,6 +8,7 @@ use Rattle.rules.specs.Verdict.{breaks2}
 use Rattle.judging.specs.Standing.{is_misplaced, is_bad}
 use Rattle.judging.proofs.Passes.{pass_record, pass_label, placing_start, placing_found, placing_bad, placing_fine, placing_end}
 use Rattle.judging.proofs.standing.try_labels.Goals as goal
+use Rattle.judging.proofs.standing.try_labels.Goals.{in-BadStep, in-Fine}
 
 pub loop-at-init : goal.loop-at-init
 loop-at-init c = ([], placing_start c.requires.0 c.requires.1 c.requires.2)
@@ -39,9 +40,6 @@ test_label-requires c =
           c.loop-at-test.true c.label_at-label.ensures,
     )
 
-pub shape_of-marks-in-Misplaced : goal.shape_of-marks-in-Misplaced
-shape_of-marks-in-Misplaced c = ends_length _ _ (c.test_label.ensures.ends_kept ∙ c.loop-at.invariant.1.kept)
-
 pub returns-in-Misplaced : goal.returns-in-Misplaced
 returns-in-Misplaced c =
     placing_found c.loop-at.invariant.1 c.loop-at-test.true c.label_at-label.ensures
@@ -61,37 +59,10 @@ overflow_add-at c =
       c.well_formed,
     )
 
-pub loop-at-smaller-in-BadStep : goal.loop-at-smaller-in-BadStep
-loop-at-smaller-in-BadStep c =
-    let g = c.label_at-label.ensures in
-    omega (arith, g.within, g.on)
-
-pub loop-at-preserved-in-BadStep : goal.loop-at-preserved-in-BadStep
-loop-at-preserved-in-BadStep c =
-    let told = c.in-BadStep.is in (
-      _,
-      placing_bad c.loop-at.invariant.1 c.loop-at-test.true c.label_at-label.ensures
-          c.test_label.ensures
-          (ap is_misplaced told) (ap is_bad told),
-    )
-
 pub one_more-good-requires : goal.one_more-good-requires
 one_more-good-requires c =
     let i = c.loop-at.invariant.1 in
     (i.fewer, omega (arith, i.passing.few, i.passing.inside, c.well_formed))
-
-pub overflow_add-i-in-Fine : goal.overflow_add-i-in-Fine
-overflow_add-i-in-Fine c =
-    let i = c.loop-at.invariant.1 in
-    omega (arith, i.passing.few, i.passing.inside, c.well_formed)
-
-pub overflow_add-at-in-Fine : goal.overflow_add-at-in-Fine
-overflow_add-at-in-Fine c =
-    omega (
-      arith,
-      c.label_at-label.ensures.within,
-      c.well_formed,
-    )
 
 pub loop-at-smaller : goal.loop-at-smaller
 loop-at-smaller c =
@@ -100,15 +71,17 @@ loop-at-smaller c =
 
 pub loop-at-preserved : goal.loop-at-preserved
 loop-at-preserved c =
-    let told = c.in-Fine.is in (
-      _,
-      placing_fine c.loop-at.invariant.1 c.loop-at-test.true
-          c.label_at-label.ensures c.test_label.ensures
-          (ap is_misplaced told) (ap is_bad told) c.one_more-good.ensures,
-    )
-
-pub shape_of-marks : goal.shape_of-marks
-shape_of-marks c = ends_length _ _ c.loop-at.invariant.1.kept
+    let p = c.loop-at.invariant.1 in
+    elim c.match-test_label.branch [
+      | in-BadStep w ↦
+          let told = w.in-BadStep.is in
+          (_, placing_bad p c.loop-at-test.true c.label_at-label.ensures c.test_label.ensures
+          (ap is_misplaced told) (ap is_bad told) w.good-is)
+      | in-Fine w ↦
+          let told = w.in-Fine.is in
+          (_, placing_fine p c.loop-at-test.true c.label_at-label.ensures c.test_label.ensures
+          (ap is_misplaced told) (ap is_bad told) (w.good-is ∙ w.one_more-good.ensures))
+    ]
 
 pub returns : goal.returns
 returns c = placing_end c.loop-at.invariant.1 c.loop-at-test.false
