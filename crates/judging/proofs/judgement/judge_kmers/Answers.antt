@@ -5,3 +5,16 @@ use Rattle.judging.proofs.judgement.judge_kmers.Goals as goal
 
 pub judge_ends-requires : goal.judge_ends-requires
 judge_ends-requires c = (ready_still c.requires.0 c.try_labels.ensures.ends_kept, c.requires.2)
+
+pub returns-in-Ok : goal.returns-in-Ok
+returns-in-Ok c =
+    one_missing c.requires.0 c.try_labels.ensures c.in-Ok.is c.lacks.ensures c.if-lacks.true
+
+pub returns-in-Ok-2 : goal.returns-in-Ok-2
+returns-in-Ok-2 c =
+    third_broken c.requires.0 c.try_labels.ensures c.in-Ok.is c.lacks.ensures c.if-lacks.false c.if-all.true
+
+pub returns-in-Ok-3 : goal.returns-in-Ok-3
+returns-in-Ok-3 c =
+    third_kept c.requires.0 c.try_labels.ensures c.in-Ok.is c.lacks.ensures c.if-lacks.false c.if-all.false
+    c.judge_ends.ensures
