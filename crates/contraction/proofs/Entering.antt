@@ -44,17 +44,17 @@ module _ {K : ℕ} {keys ms : List ℕ} (r : Ready K keys ms) (a : ℕ) (start :
       (λ p q. absurd (cc)) (λ p q. rw p) (sym found ∙ e)
 
 -- The k-mer y and its reverse complement o: the smaller is looked up, and whether it is y says by which side the vertex is entered.
-module _ (K : ℕ) (keys ms : List ℕ) (a : ℕ) (start : Side) (y b : ℕ) {o : ℕ} (other : o ≡ rc K y) where
-  pub arrive_turned : ltb o y ≡ true → look_in K keys ms a start o Back b ≡ arrive_in K keys ms a start y b
+module _ (K : ℕ) (keys ms : List ℕ) (a : ℕ) (start : Side) (y b : ℕ) {o : ℕ} (other : o ≡ rc K y) {st : Step} where
+  pub arrive_turned : ltb o y ≡ true → st ≡ look_in K keys ms a start o Back b → st ≡ arrive_in K keys ms a start y b
   unfolding arrive canon is_canon
-  arrive_turned h =
+  arrive_turned h e =
       let l = ltb-true o y h in
       let c : min y (rc K y) ≡ o = omega arith in
-      rw (c, lt-leb y (rc K y) (omega arith))
+      e ∙ rw (c, lt-leb y (rc K y) (omega arith))
 
-  pub arrive_straight : ltb o y ≡ false → look_in K keys ms a start y Front b ≡ arrive_in K keys ms a start y b
+  pub arrive_straight : ltb o y ≡ false → st ≡ look_in K keys ms a start y Front b → st ≡ arrive_in K keys ms a start y b
   unfolding arrive canon is_canon
-  arrive_straight h =
+  arrive_straight h e =
       let l = ltb-false o y h in
       let c : min y (rc K y) ≡ y = omega arith in
-      rw (c, le-leb y (rc K y) (omega arith))
+      e ∙ rw (c, le-leb y (rc K y) (omega arith))

@@ -37,19 +37,19 @@ module _ (κ : Kind) (K cutoff : ℕ) (keys counts labels starts lengths ms₀ :
   same : run_in K keys ms (length ms) ≡ all
   same = run_is κ K cutoff keys counts ms₀ t d
 
-  zeros : {after marks : List ℕ} → marks ≡ replicate (length after) 0 → length after ≡ length ms₀
+  zeros : (after : List ℕ) {marks : List ℕ} → marks ≡ replicate (length after) 0 → length after ≡ length ms₀
       → marks ≡ over (replicate (length ms₀) 0) ms₀
-  zeros {after} e l =
+  zeros after e l =
       e ∙ ap (λ (n : ℕ). replicate n 0) l
       ∙ sym (over_all (replicate (length ms₀) 0) ms₀ (length-replicate {A = ℕ} (length ms₀) 0))
 
-  pub missing_vertex : (run_in K keys ms (length ms)).missed ≡ true → {after marks : List ℕ} → marks ≡ replicate (length after) 0
+  pub missing_vertex : (run_in K keys ms (length ms)).missed ≡ true → (after : List ℕ) {marks : List ℕ} → marks ≡ replicate (length after) 0
       → length after ≡ length ms₀
       → Contracts (Err MissingVertex) labels starts lengths marks (finish_in κ K cutoff (length ms₀) keys counts labels starts lengths ms₀)
   unfolding finish
-  missing_vertex h e l =
+  missing_vertex h after e l =
       let m : all.missed ≡ true = sym (ap (λ (r : Run). r.missed) same) ∙ h in
-      rw m (record { answer = refl; labels_after = refl; starts_after = refl; lengths_after = refl; marks_after = zeros e l })
+      rw m (record { answer = refl; labels_after = refl; starts_after = refl; lengths_after = refl; marks_after = zeros after e l })
 
   module _ {number bases : ℕ} {after : List ℕ} (s : Surveys K keys ms (length ms) number bases after) where
     found : all.missed ≡ false
@@ -74,7 +74,7 @@ module _ (κ : Kind) (K cutoff : ℕ) (keys counts labels starts lengths ms₀ :
     unfolding finish
     no_room q k e l =
         rw (found, lacking_is, ← q, k)
-        (record { answer = refl; labels_after = refl; starts_after = refl; lengths_after = refl; marks_after = zeros e l })
+        (record { answer = refl; labels_after = refl; starts_after = refl; lengths_after = refl; marks_after = zeros after e l })
 
     module _ {short : Bool} (q : short ≡ lacking) (k : short ≡ false) where
       room : Roomy K keys ms (length labels) (length starts) (length lengths)

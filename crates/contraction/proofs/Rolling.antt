@@ -33,8 +33,8 @@ use Rattle.marks.specs.Ready.{keys_for, Ready}
 use Rattle.marks.proofs.Still.{keys_marks}
 
 -- The k-mer that a Result holds, where it is known which.
-held : {r : Result Kmer KmerError} {n : ℕ} {y : Kmer} → r ≡ Ok (kmer_of n) → r ≡ Ok y → y ≡ kmer_of n
-held e f = let g : ◌≡◌ {A = Result Kmer KmerError} (Ok _) (Ok _) = sym f ∙ e in cc
+held : (n : ℕ) {r : Result Kmer KmerError} {y : Kmer} → r ≡ Ok (kmer_of n) → r ≡ Ok y → y ≡ kmer_of n
+held n e f = let g : ◌≡◌ {A = Result Kmer KmerError} (Ok _) (Ok _) = sym f ∙ e in cc
 
 -- Vertex v as it is stored, and turned.
 module _ {K : ℕ} {keys ms : List ℕ} (r : Ready K keys ms) (v : ℕ) (h : v < length ms)
@@ -53,7 +53,7 @@ module _ {K : ℕ} {keys ms : List ℕ} (r : Ready K keys ms) (v : ℕ) (h : v <
 
   module _ {y : Kmer} (is : t ≡ Ok y) where
     other : value_of y ≡ rc K stored
-    other = value_back (rc K (value_of x)) (held turned_ok is) ∙ ap (rc K) value
+    other = value_back (rc K (value_of x)) (held (rc K (value_of x)) turned_ok is) ∙ ap (rc K) value
 
     pub seen_front : {s : Side} → s ≡ Front → Both K (seen K (keys_for ms keys) v s) (record { here = y; other = x })
     seen_front e = rw e (record { below = rc_lt K stored; here = other; other = value ∙ sym (rc_rc K stored below) })
@@ -85,9 +85,9 @@ module _ {K : ℕ} (ok : ok_k K ≡ true) {b : ℕ} (base : b < 4) {s : Strands}
         let one = (ok_bounds K ok).0 in
         record {
           below = forward_lt K x b;
-          here = value_back (forward K x b) (held (forward_ok next) ey);
+          here = value_back (forward K x b) (held (forward K x b) (forward_ok next) ey);
           other =
-              value_back (backward K o d) (held (backward_ok turned) ez)
+              value_back (backward K o d) (held (backward K o d) (backward_ok turned) ez)
               ∙ rw (strands.other, rest) (sym (rc_forward K x b one base));
         }
 

@@ -9,7 +9,7 @@ use lib.Seq.{drop-drop, get_or-drop}
 use Rattle.kmer.specs.Kmer.{forward}
 use Rattle.state.specs.declared.Side.{Side}
 use Rattle.graph.specs.declared.Step.{Step}
-use Rattle.graph.specs.declared.Step.TheVariants.{Next}
+use Rattle.graph.specs.declared.Step.TheVariants.{Next, Stop, Missing}
 use Rattle.graph.specs.Table.{keys_of}
 use Rattle.graph.specs.Walks.{Ends, seen, step}
 use Rattle.laws.specs.Trails.{is_next}
@@ -29,6 +29,12 @@ pub walk_few : {K : ℕ} {keys ms : List ℕ} → Ready K keys ms → (a : ℕ) 
 walk_few {K} {keys} {ms} r a start =
     let p = paced K (keys_for ms keys) (ends ms) a start (visits ms) (visits_length ms ∙ sym (keys_marks r)) in
     omega (arith, p.sum, unseen_le (set (visits ms) a 1), length-set (visits ms) a 1, visits_length ms)
+
+-- A step that is no next place.
+pub not_next : (st : Step) → ((v : ℕ) (s : Side) (b : ℕ) → st ≡ Next v s b → ⊥) → is_next st ≡ false
+not_next (Next v s b) f = absurd (f v s b refl)
+not_next (Stop why) f = refl
+not_next Missing f = refl
 
 -- The walk stands at vertex v, which it is to mark and to leave by side s.
 pub record Walking (K : ℕ) (keys ms : List ℕ) (a : ℕ) (start : Side) (bases v : ℕ) (s : Side) (now : List ℕ) : Type 0 where

@@ -84,12 +84,32 @@ fn arrive(
     requires { Ready k keys.now marks.now × Both k (value_of next.here) next }
     ensures { result ≡ arrive_in k keys.now marks.now anchor start (value_of next.here) base }
 {
-    let (y, side) = if next.other.is_less(next.here) {
-        (next.other, Side::Back)
+    let (here, other) = (next.here, next.other);
+    if other.is_less(here) {
+        look(
+            k,
+            keys,
+            directory,
+            marks,
+            anchor,
+            start,
+            other,
+            Side::Back,
+            base,
+        )
     } else {
-        (next.here, Side::Front)
-    };
-    look(k, keys, directory, marks, anchor, start, y, side, base)
+        look(
+            k,
+            keys,
+            directory,
+            marks,
+            anchor,
+            start,
+            here,
+            Side::Front,
+            base,
+        )
+    }
 }
 
 // Vertex v, seen as its strands say, is left by a side: by its single retained edge, or the walk stops.

@@ -68,12 +68,12 @@ fn follow_all(
         if marks::is_skipped(marks, a) {
             trail[at] = SKIPPED;
             at += 1;
-        } else {
-            let label = extract(k, keys, directory, marks, a, trail, at)?;
-            all.labels += 1;
-            all.bases += label.bases;
-            at = label.end;
+            continue;
         }
+        let label = extract(k, keys, directory, marks, a, trail, at)?;
+        all.labels += 1;
+        all.bases += label.bases;
+        at = label.end;
     }
     Ok(all)
 }

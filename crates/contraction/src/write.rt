@@ -110,14 +110,14 @@ pub(crate) fn write_labels(
     for a in 0..marks.len() {
         if trail[from] == SKIPPED {
             from += 1;
-        } else {
-            let label = write_label(k, step::key_at(keys, a), trail, from, buffer, at);
-            starts[labels] = at as u32;
-            lengths[labels] = label.bases as u32;
-            labels += 1;
-            at += label.bases;
-            from = label.end;
+            continue;
         }
+        let label = write_label(k, step::key_at(keys, a), trail, from, buffer, at);
+        starts[labels] = at as u32;
+        lengths[labels] = label.bases as u32;
+        labels += 1;
+        at += label.bases;
+        from = label.end;
     }
     labels
 }

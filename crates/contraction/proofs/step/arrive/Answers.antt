@@ -10,8 +10,8 @@ returns-then-is_less c =
     arrive_turned a.k a.keys.now a.marks.now a.anchor a.start (value_of a.next.here) a.base c.requires.1.other
     (sym c.is_less.ensures ∙ c.if-is_less.true) c.look.ensures
 
-pub returns : goal.returns
-returns c =
+pub returns-else-is_less : goal.returns-else-is_less
+returns-else-is_less c =
     let a = c.args in
     arrive_straight a.k a.keys.now a.marks.now a.anchor a.start (value_of a.next.here) a.base c.requires.1.other
-    (sym c.is_less.ensures ∙ c.if-is_less.false) c.look-2.ensures
+    (sym c.is_less.ensures ∙ c.if-is_less.false) c.look-else-is_less.ensures

@@ -7,18 +7,14 @@ use Rattle.directory.proofs.Confirmed.{found_by}
 use Rattle.contraction.proofs.Entering.{look_found, look_missing}
 use Rattle.contraction.proofs.step.look.Goals as goal
 
-pub returns-in-At : goal.returns-in-At
-returns-in-At c =
+pub returns-in-Ok : goal.returns-in-Ok
+returns-in-Ok c =
     let a = c.args in
-    let told-by =
-    found_by a.k (keys_of (length a.marks.now) a.keys.now) c.requires.fits a.k a.directory.now (value_of a.y) in
-    look_found c.requires a.anchor a.start (value_of a.y) (c.find.ensures ∙ told-by)
-    c.in-At.is a.side a.base c.enter.ensures
+    let told-by = found_by a.k (keys_of (length a.marks.now) a.keys.now) c.requires.fits a.k a.directory.now (value_of a.y) in
+    look_found c.requires a.anchor a.start (value_of a.y) (c.find.ensures ∙ told-by) c.in-Ok.is a.side a.base c.enter.ensures
 
-pub returns-in-Gap : goal.returns-in-Gap
-returns-in-Gap c =
+pub returns-in-Err : goal.returns-in-Err
+returns-in-Err c =
     let a = c.args in
-    let told-by =
-    found_by a.k (keys_of (length a.marks.now) a.keys.now) c.requires.fits a.k a.directory.now (value_of a.y) in
-    look_missing c.requires a.anchor a.start (value_of a.y) (c.find.ensures ∙ told-by)
-    c.in-Gap.is a.side a.base
+    let told-by = found_by a.k (keys_of (length a.marks.now) a.keys.now) c.requires.fits a.k a.directory.now (value_of a.y) in
+    look_missing c.requires a.anchor a.start (value_of a.y) (c.find.ensures ∙ told-by) c.in-Err.is a.side a.base

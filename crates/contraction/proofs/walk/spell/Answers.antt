@@ -6,7 +6,7 @@ use Rattle.marks.proofs.Marking.{ends_length}
 use Rattle.marks.proofs.Still.{ready_still}
 use Rattle.contraction.proofs.Rolling.{both_here, both_on, both_still}
 use Rattle.contraction.proofs.Stepping.{code_small}
-use Rattle.contraction.proofs.Walking.{walk_few, walking_start, walking_less, walking_next, walking_base, walking_seen, walking_ends}
+use Rattle.contraction.proofs.Walking.{walk_few, walking_start, walking_less, walking_next, walking_base, walking_seen, walking_ends, not_next}
 use Rattle.contraction.proofs.Spelling.{spelling_start, spelling_length, spelling_next, spelling_ends}
 use Rattle.contraction.proofs.walk.spell.Goals as goal
 
@@ -17,8 +17,8 @@ loop-vertex-init c = (
   c.strands_of-strands.ensures,
 )
 
-pub advance-requires : goal.advance-requires
-advance-requires c =
+pub advance-last-requires : goal.advance-last-requires
+advance-last-requires c =
     let l = c.loop-vertex in
     let g = l.invariant.0 in (
       ready_still g.ready g.kept,
@@ -29,65 +29,46 @@ advance-requires c =
 pub rolled-strands-requires : goal.rolled-strands-requires
 rolled-strands-requires c =
     let inv = c.loop-vertex.invariant in
-    let base = walking_base inv.0 c.advance.ensures c.in-Next.is in
+    let base = walking_base inv.0 c.advance-last.ensures c.in-Next.is in
     (inv.0.ready.ok, omega (arith, base.1, c.base_of-letter.ensures), both_here inv.2)
 
 pub overflow_add-buffer : goal.overflow_add-buffer
 overflow_add-buffer c =
     let g = c.loop-vertex.invariant in
-    let less = walking_less g.0 c.advance.ensures c.in-Next.is in
+    let less = walking_less g.0 c.advance-last.ensures c.in-Next.is in
     omega (arith, less, g.1.room, c.well_formed)
 
 pub bounds-buffer-at : goal.bounds-buffer-at
 bounds-buffer-at c =
     let g = c.loop-vertex.invariant in
-    let less = walking_less g.0 c.advance.ensures c.in-Next.is in
+    let less = walking_less g.0 c.advance-last.ensures c.in-Next.is in
     omega (arith, less, g.1.room, spelling_length g.1 g.0.within)
 
 pub overflow_add-bases : goal.overflow_add-bases
 overflow_add-bases c =
     let a = c.args in
     let g = c.loop-vertex.invariant.0 in
-    let less = walking_less g c.advance.ensures c.in-Next.is in
+    let less = walking_less g c.advance-last.ensures c.in-Next.is in
     omega (arith, less, walk_few g.ready a.anchor a.start, g.ready.few)
 
 pub loop-vertex-smaller : goal.loop-vertex-smaller
-loop-vertex-smaller c = omega (arith, walking_less c.loop-vertex.invariant.0 c.advance.ensures c.in-Next.is)
+loop-vertex-smaller c = omega (arith, walking_less c.loop-vertex.invariant.0 c.advance-last.ensures c.in-Next.is)
 
 pub loop-vertex-preserved : goal.loop-vertex-preserved
 loop-vertex-preserved c =
     let g = c.loop-vertex.invariant in
     let next = c.in-Next.is in
-    let less = walking_less g.0 c.advance.ensures next in
-    let base = walking_base g.0 c.advance.ensures next in
+    let less = walking_less g.0 c.advance-last.ensures next in
+    let base = walking_base g.0 c.advance-last.ensures next in
     let code = code_small c.base_of-letter.ensures base.1 in
     let letter = c.to_ascii.ensures ∙ ap letter_of code in
-    let ahead = ap (forward _ _) code ∙ walking_seen g.0 c.advance.ensures next in (
-      walking_next g.0 c.advance.ensures next,
+    let ahead = ap (forward _ _) code ∙ walking_seen g.0 c.advance-last.ensures next in (
+      walking_next g.0 c.advance-last.ensures next,
       spelling_next g.1 less base.0 letter,
       both_on g.2 _ ahead c.rolled-strands.ensures,
     )
 
-pub shape_of-buffer-in-Stop : goal.shape_of-buffer-in-Stop
-shape_of-buffer-in-Stop c =
-    let g = c.loop-vertex.invariant in spelling_length g.1 g.0.within
-
-pub returns-in-Stop : goal.returns-in-Stop
-returns-in-Stop c =
+pub returns-in_default : goal.returns-in_default
+returns-in_default c =
     let g = c.loop-vertex.invariant in
-    spelling_ends (walking_ends g.0 c.advance.ensures c.in-Stop.is refl) g.1
-
-pub shape_of-marks-in-Stop : goal.shape_of-marks-in-Stop
-shape_of-marks-in-Stop c = ends_length _ _ (returns-in-Stop c).walks.ends_kept
-
-pub shape_of-buffer-in-Missing : goal.shape_of-buffer-in-Missing
-shape_of-buffer-in-Missing c =
-    let g = c.loop-vertex.invariant in spelling_length g.1 g.0.within
-
-pub returns-in-Missing : goal.returns-in-Missing
-returns-in-Missing c =
-    let g = c.loop-vertex.invariant in
-    spelling_ends (walking_ends g.0 c.advance.ensures c.in-Missing.is refl) g.1
-
-pub shape_of-marks-in-Missing : goal.shape_of-marks-in-Missing
-shape_of-marks-in-Missing c = ends_length _ _ (returns-in-Missing c).walks.ends_kept
+    spelling_ends (walking_ends g.0 c.advance-last.ensures refl (not_next c.advance-last.result c.in_default.not-Next)) g.1

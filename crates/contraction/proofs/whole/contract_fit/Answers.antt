@@ -9,42 +9,39 @@ use Rattle.contraction.proofs.Finishing.{missing_vertex, no_room, writable, cont
 use Rattle.state.specs.Says.{kind_of}
 use Rattle.contraction.proofs.whole.contract_fit.Goals as goal
 
-pub survey-all-requires : goal.survey-all-requires
-survey-all-requires c =
+pub survey-requires : goal.survey-requires
+survey-requires c =
     let a = c.args in
     let r = ready (kind_of a.kind) a.k a.cutoff a.keys.now a.counts.now a.marks.now c.requires c.digest.ensures in (
       r,
       clean (kind_of a.kind) a.k a.cutoff a.keys.now a.counts.now a.marks.now c.requires c.digest.ensures,
-      omega (arith, r.few, length-replicate {A = ℕ} 131072 0),
+      omega (arith, r.few),
     )
 
-pub returns-then-all : goal.returns-then-all
-returns-then-all c =
+pub returns-in-Err : goal.returns-in-Err
+returns-in-Err c =
     let a = c.args in
-    missing_vertex (kind_of a.kind) a.k a.cutoff a.keys.now a.counts.now a.labels.now a.starts.now a.lengths.now a.marks.now
-    c.requires c.digest.ensures c.survey-all.ensures.0 c.if-all.true c.clear.ensures
-    (c.survey-all.auto.marks ∙ c.digest.auto.marks)
+    rw c.in-Err.ensures.0
+    (missing_vertex (kind_of a.kind) a.k a.cutoff a.keys.now a.counts.now a.labels.now a.starts.now a.lengths.now a.marks.now
+    c.requires c.digest.ensures c.in-Err.ensures.1 c.survey.new.marks c.clear-in-Err.ensures (c.survey.auto.marks ∙ c.digest.auto.marks))
 
-pub returns-then-lacks_room : goal.returns-then-lacks_room
-returns-then-lacks_room c =
+pub returns-in-Ok : goal.returns-in-Ok
+returns-in-Ok c =
     let a = c.args in
     no_room (kind_of a.kind) a.k a.cutoff a.keys.now a.counts.now a.labels.now a.starts.now a.lengths.now a.marks.now
-    c.requires c.digest.ensures c.survey-all.ensures.0 c.if-all.false
-    c.lacks_room.ensures c.if-lacks_room.true c.clear-then-lacks_room.ensures
-    (c.survey-all.auto.marks ∙ c.digest.auto.marks)
+    c.requires c.digest.ensures c.in-Ok.ensures.0 c.lacks_room.ensures c.if-lacks_room.true c.clear.ensures
+    (c.survey.auto.marks ∙ c.digest.auto.marks)
 
-pub write_list-count-requires : goal.write_list-count-requires
-write_list-count-requires c =
+pub write_list-requires : goal.write_list-requires
+write_list-requires c =
     let a = c.args in
     writable (kind_of a.kind) a.k a.cutoff a.keys.now a.counts.now a.labels.now a.starts.now a.lengths.now a.marks.now
-    c.requires c.digest.ensures c.survey-all.ensures.0 c.if-all.false
-    c.lacks_room.ensures c.if-lacks_room.false
-    _ (omega (arith, length-replicate {A = ℕ} 131072 0)) c.survey-all.ensures.1
+    c.requires c.digest.ensures c.in-Ok.ensures.0 c.lacks_room.ensures c.if-lacks_room.false
+    _ (omega (arith, length-replicate {A = ℕ} 131072 0)) c.in-Ok.ensures.1
 
-pub returns : goal.returns
-returns c =
+pub returns-in-Ok-2 : goal.returns-in-Ok-2
+returns-in-Ok-2 c =
     let a = c.args in
     contracted (kind_of a.kind) a.k a.cutoff a.keys.now a.counts.now a.labels.now a.starts.now a.lengths.now a.marks.now
-    c.requires c.digest.ensures c.survey-all.ensures.0 c.if-all.false
-    c.lacks_room.ensures c.if-lacks_room.false c.write_list-count.ensures
-    (c.write_list-count.auto.marks ∙ c.survey-all.auto.marks ∙ c.digest.auto.marks)
+    c.requires c.digest.ensures c.in-Ok.ensures.0 c.lacks_room.ensures c.if-lacks_room.false c.write_list.ensures
+    (c.write_list.auto.marks ∙ c.survey.auto.marks ∙ c.digest.auto.marks)

@@ -4,36 +4,12 @@ use Rattle.kmer.specs.Says.{value_of}
 use Rattle.contraction.proofs.Writing.{Legible, back_inside, fits_closed, room_closed, whole_closed, written_closed, front_ends, front_inside, fits_open, kmer_room, back_room, whole_open, written_open}
 use Rattle.contraction.proofs.write.write_label.Goals as goal
 
-pub walk_length-back-requires : goal.walk_length-back-requires
-walk_length-back-requires c = c.requires.2.back_ends
-
-pub overflow_add-stop : goal.overflow_add-stop
-overflow_add-stop c =
-    let a = c.args in
-    let y : Legible a.k (value_of a.x) a.trail.now a.from a.buffer.now a.at c.walk_length-back.result =
-    record { piece = c.requires.2; room = c.requires.3; back = c.walk_length-back.ensures } in
-    omega (arith, back_inside y, c.well_formed)
-
-pub bounds-trail-stop : goal.bounds-trail-stop
-bounds-trail-stop c =
-    let a = c.args in
-    let y : Legible a.k (value_of a.x) a.trail.now a.from a.buffer.now a.at c.walk_length-back.result =
-    record { piece = c.requires.2; room = c.requires.3; back = c.walk_length-back.ensures } in
-    back_inside y
-
 pub put_letters-requires : goal.put_letters-requires
 put_letters-requires c =
     let a = c.args in
     let y : Legible a.k (value_of a.x) a.trail.now a.from a.buffer.now a.at c.walk_length-back.result =
     record { piece = c.requires.2; room = c.requires.3; back = c.walk_length-back.ensures } in
     (c.requires.0, c.requires.1, omega (arith, fits_closed y c.if-trail-stop-eq-CLOSED.true))
-
-pub overflow_add-at : goal.overflow_add-at
-overflow_add-at c =
-    let a = c.args in
-    let y : Legible a.k (value_of a.x) a.trail.now a.from a.buffer.now a.at c.walk_length-back.result =
-    record { piece = c.requires.2; room = c.requires.3; back = c.walk_length-back.ensures } in
-    omega (arith, fits_closed y c.if-trail-stop-eq-CLOSED.true, c.well_formed)
 
 pub copy_walk-requires : goal.copy_walk-requires
 copy_walk-requires c =
@@ -42,33 +18,12 @@ copy_walk-requires c =
     record { piece = c.requires.2; room = c.requires.3; back = c.walk_length-back.ensures } in
     (omega (arith, back_inside y), room_closed y c.if-trail-stop-eq-CLOSED.true c.put_letters.ensures)
 
-pub overflow_add-k : goal.overflow_add-k
-overflow_add-k c =
-    let a = c.args in
-    let y : Legible a.k (value_of a.x) a.trail.now a.from a.buffer.now a.at c.walk_length-back.result =
-    record { piece = c.requires.2; room = c.requires.3; back = c.walk_length-back.ensures } in
-    omega (arith, fits_closed y c.if-trail-stop-eq-CLOSED.true, c.well_formed)
-
 pub canonicalize_part-requires : goal.canonicalize_part-requires
 canonicalize_part-requires c =
     let a = c.args in
     let y : Legible a.k (value_of a.x) a.trail.now a.from a.buffer.now a.at c.walk_length-back.result =
     record { piece = c.requires.2; room = c.requires.3; back = c.walk_length-back.ensures } in
     whole_closed y c.if-trail-stop-eq-CLOSED.true c.put_letters.ensures c.copy_walk.ensures
-
-pub overflow_add-result : goal.overflow_add-result
-overflow_add-result c =
-    let a = c.args in
-    let y : Legible a.k (value_of a.x) a.trail.now a.from a.buffer.now a.at c.walk_length-back.result =
-    record { piece = c.requires.2; room = c.requires.3; back = c.walk_length-back.ensures } in
-    omega (arith, fits_closed y c.if-trail-stop-eq-CLOSED.true, c.well_formed)
-
-pub overflow_add-result-then-trail-stop-eq-CLOSED : goal.overflow_add-result-then-trail-stop-eq-CLOSED
-overflow_add-result-then-trail-stop-eq-CLOSED c =
-    let a = c.args in
-    let y : Legible a.k (value_of a.x) a.trail.now a.from a.buffer.now a.at c.walk_length-back.result =
-    record { piece = c.requires.2; room = c.requires.3; back = c.walk_length-back.ensures } in
-    omega (arith, back_inside y, c.well_formed)
 
 pub returns-then-trail-stop-eq-CLOSED : goal.returns-then-trail-stop-eq-CLOSED
 returns-then-trail-stop-eq-CLOSED c =
@@ -77,27 +32,6 @@ returns-then-trail-stop-eq-CLOSED c =
     record { piece = c.requires.2; room = c.requires.3; back = c.walk_length-back.ensures } in
     written_closed y c.if-trail-stop-eq-CLOSED.true c.put_letters.ensures c.copy_walk.ensures
     c.canonicalize_part.ensures
-
-pub overflow_add-stop-2 : goal.overflow_add-stop-2
-overflow_add-stop-2 c =
-    let a = c.args in
-    let y : Legible a.k (value_of a.x) a.trail.now a.from a.buffer.now a.at c.walk_length-back.result =
-    record { piece = c.requires.2; room = c.requires.3; back = c.walk_length-back.ensures } in
-    omega (arith, back_inside y, c.well_formed)
-
-pub walk_length-front-requires : goal.walk_length-front-requires
-walk_length-front-requires c =
-    let a = c.args in
-    let y : Legible a.k (value_of a.x) a.trail.now a.from a.buffer.now a.at c.walk_length-back.result =
-    record { piece = c.requires.2; room = c.requires.3; back = c.walk_length-back.ensures } in
-    front_ends y c.if-trail-stop-eq-CLOSED.false
-
-pub overflow_add-stop-3 : goal.overflow_add-stop-3
-overflow_add-stop-3 c =
-    let a = c.args in
-    let y : Legible a.k (value_of a.x) a.trail.now a.from a.buffer.now a.at c.walk_length-back.result =
-    record { piece = c.requires.2; room = c.requires.3; back = c.walk_length-back.ensures } in
-    omega (arith, back_inside y, c.well_formed)
 
 pub copy_turned-requires : goal.copy_turned-requires
 copy_turned-requires c =
@@ -108,26 +42,12 @@ copy_turned-requires c =
     let m = c.walk_length-front.ensures in
     (front_inside y o m, omega (arith, fits_open y o m))
 
-pub overflow_add-at-2 : goal.overflow_add-at-2
-overflow_add-at-2 c =
-    let a = c.args in
-    let y : Legible a.k (value_of a.x) a.trail.now a.from a.buffer.now a.at c.walk_length-back.result =
-    record { piece = c.requires.2; room = c.requires.3; back = c.walk_length-back.ensures } in
-    omega (arith, fits_open y c.if-trail-stop-eq-CLOSED.false c.walk_length-front.ensures, c.well_formed)
-
 pub put_letters-requires-2 : goal.put_letters-requires-2
 put_letters-requires-2 c =
     let a = c.args in
     let y : Legible a.k (value_of a.x) a.trail.now a.from a.buffer.now a.at c.walk_length-back.result =
     record { piece = c.requires.2; room = c.requires.3; back = c.walk_length-back.ensures } in
     (c.requires.0, c.requires.1, kmer_room y c.if-trail-stop-eq-CLOSED.false c.walk_length-front.ensures c.copy_turned.ensures)
-
-pub overflow_add-at-3 : goal.overflow_add-at-3
-overflow_add-at-3 c =
-    let a = c.args in
-    let y : Legible a.k (value_of a.x) a.trail.now a.from a.buffer.now a.at c.walk_length-back.result =
-    record { piece = c.requires.2; room = c.requires.3; back = c.walk_length-back.ensures } in
-    omega (arith, fits_open y c.if-trail-stop-eq-CLOSED.false c.walk_length-front.ensures, c.well_formed)
 
 pub overflow_add-at-4 : goal.overflow_add-at-4
 overflow_add-at-4 c =
@@ -145,20 +65,6 @@ copy_walk-requires-2 c =
       back_room y c.if-trail-stop-eq-CLOSED.false c.walk_length-front.ensures c.copy_turned.ensures c.put_letters-2.ensures,
     )
 
-pub overflow_add-front : goal.overflow_add-front
-overflow_add-front c =
-    let a = c.args in
-    let y : Legible a.k (value_of a.x) a.trail.now a.from a.buffer.now a.at c.walk_length-back.result =
-    record { piece = c.requires.2; room = c.requires.3; back = c.walk_length-back.ensures } in
-    omega (arith, fits_open y c.if-trail-stop-eq-CLOSED.false c.walk_length-front.ensures, c.well_formed)
-
-pub overflow_add-front-2 : goal.overflow_add-front-2
-overflow_add-front-2 c =
-    let a = c.args in
-    let y : Legible a.k (value_of a.x) a.trail.now a.from a.buffer.now a.at c.walk_length-back.result =
-    record { piece = c.requires.2; room = c.requires.3; back = c.walk_length-back.ensures } in
-    omega (arith, fits_open y c.if-trail-stop-eq-CLOSED.false c.walk_length-front.ensures, c.well_formed)
-
 pub canonicalize_part-requires-2 : goal.canonicalize_part-requires-2
 canonicalize_part-requires-2 c =
     let a = c.args in
@@ -166,34 +72,6 @@ canonicalize_part-requires-2 c =
     record { piece = c.requires.2; room = c.requires.3; back = c.walk_length-back.ensures } in
     whole_open y c.if-trail-stop-eq-CLOSED.false c.walk_length-front.ensures c.copy_turned.ensures
     c.put_letters-2.ensures c.copy_walk-2.ensures
-
-pub overflow_add-result-2 : goal.overflow_add-result-2
-overflow_add-result-2 c =
-    let a = c.args in
-    let y : Legible a.k (value_of a.x) a.trail.now a.from a.buffer.now a.at c.walk_length-back.result =
-    record { piece = c.requires.2; room = c.requires.3; back = c.walk_length-back.ensures } in
-    omega (arith, fits_open y c.if-trail-stop-eq-CLOSED.false c.walk_length-front.ensures, c.well_formed)
-
-pub overflow_add-result-3 : goal.overflow_add-result-3
-overflow_add-result-3 c =
-    let a = c.args in
-    let y : Legible a.k (value_of a.x) a.trail.now a.from a.buffer.now a.at c.walk_length-back.result =
-    record { piece = c.requires.2; room = c.requires.3; back = c.walk_length-back.ensures } in
-    omega (arith, fits_open y c.if-trail-stop-eq-CLOSED.false c.walk_length-front.ensures, c.well_formed)
-
-pub overflow_add-result-4 : goal.overflow_add-result-4
-overflow_add-result-4 c =
-    let a = c.args in
-    let y : Legible a.k (value_of a.x) a.trail.now a.from a.buffer.now a.at c.walk_length-back.result =
-    record { piece = c.requires.2; room = c.requires.3; back = c.walk_length-back.ensures } in
-    omega (arith, front_inside y c.if-trail-stop-eq-CLOSED.false c.walk_length-front.ensures, c.well_formed)
-
-pub overflow_add-result-5 : goal.overflow_add-result-5
-overflow_add-result-5 c =
-    let a = c.args in
-    let y : Legible a.k (value_of a.x) a.trail.now a.from a.buffer.now a.at c.walk_length-back.result =
-    record { piece = c.requires.2; room = c.requires.3; back = c.walk_length-back.ensures } in
-    omega (arith, front_inside y c.if-trail-stop-eq-CLOSED.false c.walk_length-front.ensures, c.well_formed)
 
 pub returns : goal.returns
 returns c =

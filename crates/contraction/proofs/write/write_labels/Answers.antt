@@ -14,23 +14,12 @@ loop-a-init c =
 pub bounds-trail-from : goal.bounds-trail-from
 bounds-trail-from c = place_inside (standing c.loop-a.invariant c.loop-a-test.true)
 
-pub overflow_add-from : goal.overflow_add-from
-overflow_add-from c = omega (arith, place_inside (standing c.loop-a.invariant c.loop-a-test.true), c.well_formed)
-
-pub loop-a-preserved-then-trail-from-eq-SKIPPED : goal.loop-a-preserved-then-trail-from-eq-SKIPPED
-loop-a-preserved-then-trail-from-eq-SKIPPED c = listed_skip c.loop-a.invariant c.loop-a-test.true c.if-trail-from-eq-SKIPPED.true
-
-pub bounds-keys-a : goal.bounds-keys-a
-bounds-keys-a c = omega (arith, c.loop-a-test.true, c.loop-a.invariant.ready.room)
-
-pub bounds-keys-a-else-trail-from-eq-SKIPPED : goal.bounds-keys-a-else-trail-from-eq-SKIPPED
-bounds-keys-a-else-trail-from-eq-SKIPPED c = omega (arith, c.loop-a-test.true, c.loop-a.invariant.ready.room)
-
-pub write_label-written-requires : goal.write_label-written-requires
-write_label-written-requires c =
+pub write_label-label-requires : goal.write_label-label-requires
+write_label-label-requires c =
     let g = c.loop-a.invariant in
     let l = c.loop-a-test.true in
-    (g.ready.ok, anchor_small g.ready c.loop-a.a l, piece_here (standing g l) c.if-trail-from-eq-SKIPPED.false, (ahead c.loop-a.invariant c.loop-a-test.true c.if-trail-from-eq-SKIPPED.false).room)
+    let taken = c.if-trail-from-eq-SKIPPED.false in
+    rw c.key_at.ensures (g.ready.ok, anchor_small g.ready c.loop-a.a l, piece_here (standing g l) taken, (ahead g l taken).room)
 
 pub overflow_cast-starts : goal.overflow_cast-starts
 overflow_cast-starts c = omega (arith, (ahead c.loop-a.invariant c.loop-a-test.true c.if-trail-from-eq-SKIPPED.false).small)
@@ -39,25 +28,17 @@ pub bounds-starts-labels : goal.bounds-starts-labels
 bounds-starts-labels c = (ahead c.loop-a.invariant c.loop-a-test.true c.if-trail-from-eq-SKIPPED.false).start_room
 
 pub overflow_cast-lengths : goal.overflow_cast-lengths
-overflow_cast-lengths c = omega (arith, (ahead c.loop-a.invariant c.loop-a-test.true c.if-trail-from-eq-SKIPPED.false).small, c.write_label-written.ensures.bases)
+overflow_cast-lengths c =
+    let w = rw c.key_at.ensures at c.write_label-label.ensures in
+    omega (arith, (ahead c.loop-a.invariant c.loop-a-test.true c.if-trail-from-eq-SKIPPED.false).small, w.bases)
 
 pub bounds-lengths-labels : goal.bounds-lengths-labels
 bounds-lengths-labels c = (ahead c.loop-a.invariant c.loop-a-test.true c.if-trail-from-eq-SKIPPED.false).length_room
 
-pub overflow_add-at : goal.overflow_add-at
-overflow_add-at c = omega (arith, (ahead c.loop-a.invariant c.loop-a-test.true c.if-trail-from-eq-SKIPPED.false).small, c.write_label-written.ensures.bases)
+pub loop-a-preserved-then-trail-from-eq-SKIPPED : goal.loop-a-preserved-then-trail-from-eq-SKIPPED
+loop-a-preserved-then-trail-from-eq-SKIPPED c = listed_skip c.loop-a.invariant c.loop-a-test.true c.if-trail-from-eq-SKIPPED.true
 
 pub loop-a-preserved : goal.loop-a-preserved
-loop-a-preserved c = listed_more c.loop-a.invariant c.loop-a-test.true c.if-trail-from-eq-SKIPPED.false c.write_label-written.auto.buffer c.write_label-written.ensures
-
-pub shape_of-buffer : goal.shape_of-buffer
-shape_of-buffer c = c.loop-a.invariant.long_buffer
-
-pub shape_of-starts : goal.shape_of-starts
-shape_of-starts c = c.loop-a.invariant.long_starts
-
-pub shape_of-lengths : goal.shape_of-lengths
-shape_of-lengths c = c.loop-a.invariant.long_lengths
-
-pub returns : goal.returns
-returns c = listed_all c.loop-a.invariant c.loop-a-test.false
+loop-a-preserved c =
+    listed_more c.loop-a.invariant c.loop-a-test.true c.if-trail-from-eq-SKIPPED.false c.write_label-label.auto.buffer
+    (rw c.key_at.ensures at c.write_label-label.ensures)
