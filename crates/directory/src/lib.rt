@@ -28,7 +28,7 @@ pub fn cells_for(n: usize) -> usize
     16385
 }
 
-// Key i.
+// Key i; private, as table's, since a public one would have a `requires`.
 fn key_at(keys: &[u64], i: usize) -> Kmer
     requires { i < length keys.now / 2 }
     ensures { value_of result ≡ key keys.now i }

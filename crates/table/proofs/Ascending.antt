@@ -9,27 +9,9 @@ use lib.Dec.{ltb, leb}
 use lib.ListN.{length, drop}
 use lib.Seq.{drop-cons}
 use Rattle.lemmas.proofs.Tests.{both}
-use Rattle.dna.specs.Answer.{gives, refuses}
 use Rattle.kmer.specs.Kmer.{ok_k, is_canon}
-use Rattle.kmer.specs.Calls.{is_canon_call}
-use Rattle.kmer.specs.Says.{says_test}
-use Rattle.kmer.specs.declared.TestAnswer.{TestAnswer}
-use Rattle.kmer.specs.declared.TestAnswer.TheVariants as test
-use Rattle.kmer.proofs.Telling.{test_in, test_told}
 use Rattle.graph.specs.Table.{keys_of, fit_from}
 use Rattle.table.specs.Search.{key}
-
--- A test that was refused is not passed.
-abbrev pub yes : TestAnswer → Bool
-yes (test.Is t) = t
-yes (test.Refused e) = false
-
-pub yes_is : (K x : ℕ) (r : TestAnswer) → ok_k K ≡ true → says_test r ≡ is_canon_call K x → yes r ≡ ltb x (4 ^ K) && is_canon K x
-yes_is K x r k e = ap yes (test_told r ∙ ap test_in e) ∙ rw k (go (ltb x (4 ^ K)))
-  where
-    go : (t : Bool) → yes (test_in (cond t (gives (is_canon K x)) (refuses 14 []))) ≡ t && is_canon K x
-    go true = refl
-    go false = refl
 
 -- The next key has to be at least some number: a k-mer below that fails, and any other passes as it is a key.
 module _ (K least x : ℕ) where

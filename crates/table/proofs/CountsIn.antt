@@ -23,7 +23,7 @@ module _ (n m : ℕ) (places : List ℕ) (l : m ≤ length places) (new counts�
 
   pub counts_more : {s s₁ : List ℕ} (end j : ℕ) → Upto n m places end j → Opened (counts_from n m places new counts₀ j) (drop (n + m) counts₀) s end j
       → length s ≡ length counts₀ → 0 < j
-      → s₁ ≡ paste s (get_or places (j - 1) 0 + j) (drop (get_or places (j - 1) 0) s) (end - get_or places (j - 1) 0)
+      → s₁ ≡ paste s (get_or places (j - 1) 0 + (j - 1) + 1) (drop (get_or places (j - 1) 0) s) (end - get_or places (j - 1) 0)
       → length s₁ ≡ length s
       → Opened (counts_from n m places new counts₀ (j - 1)) (drop (n + m) counts₀) (set s₁ (get_or places (j - 1) 0 + (j - 1)) (get_or new (j - 1) 0)) (get_or places (j - 1) 0) (j - 1)
   counts_more {s} {s₁} end j u o long h e kept =
@@ -32,8 +32,9 @@ module _ (n m : ℕ) (places : List ℕ) (l : m ≤ length places) (new counts�
       let x : get_or (take m new) (j - 1) 0 ≡ get_or new (j - 1) 0 = get_or-take m new (j - 1) 0 (omega arith) in
       let c = put_before n m places l (take m new) (take n counts₀) j h u.left (omega (arith, length-take-le m new k)) in
       let top : end + j ≤ length s = omega arith in
+      let at : i + (j - 1) + 1 ≡ i + j = omega arith in
       opened_more i (j - 1) (get_or new (j - 1) 0 ∷ []) o b top (omega arith)
-      (wrote_part s (i + j) (drop i s) (end - i) (omega arith) (omega (arith, length-drop i s)) e)
+      (wrote_part s (i + j) (drop i s) (end - i) (omega arith) (omega (arith, length-drop i s)) (rw at at e))
       (wrote_cells s₁ (i + (j - 1)) (get_or new (j - 1) 0 ∷ []) (omega arith))
       (rw x at c)
 

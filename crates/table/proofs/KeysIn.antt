@@ -29,7 +29,8 @@ module _ (n m : ℕ) (places : List ℕ) (l : m ≤ length places) (new keys₀ 
 
   pub words_more : {s s₁ s₂ : List ℕ} (end j : ℕ) → Upto n m places end j → Opened (words_from n m places new keys₀ j) (drop (2 * n + 2 * m) keys₀) s (2 * end) (2 * j)
       → length s ≡ length keys₀ → 0 < j
-      → s₁ ≡ paste s (2 * get_or places (j - 1) 0 + 2 * j) (drop (2 * get_or places (j - 1) 0) s) (2 * end - 2 * get_or places (j - 1) 0)
+      → s₁ ≡ paste s (2 * (get_or places (j - 1) 0 + (j - 1) + 1)) (drop (2 * get_or places (j - 1) 0) s)
+      (2 * end - 2 * get_or places (j - 1) 0)
       → length s₁ ≡ length s → ((i : ℕ) → get_or new i 0 < 2 ^ 64)
       → s₂ ≡ set (set s₁ (2 * (get_or places (j - 1) 0 + (j - 1))) (get_or new (2 * (j - 1)) 0)) (2 * (get_or places (j - 1) 0 + (j - 1)) + 1) (get_or new (2 * (j - 1) + 1) 0)
       → Opened (words_from n m places new keys₀ (j - 1)) (drop (2 * n + 2 * m) keys₀) s₂ (2 * get_or places (j - 1) 0) (2 * (j - 1))
@@ -41,11 +42,12 @@ module _ (n m : ℕ) (places : List ℕ) (l : m ≤ length places) (new keys₀ 
       let top : 2 * end + 2 * j ≤ length s = omega arith in
       let x : get_or (keys_of m new) (j - 1) 0 ≡ joined lo hi = key_is m new (j - 1) (omega arith) (omega arith) in
       let c = put_before n m places l (keys_of m new) (keys_of n keys₀) j h u.left (omega (arith, keys_length m new)) in
+      let above : 2 * (i + (j - 1) + 1) ≡ 2 * i + 2 * j = omega arith in
       let at : 2 * (i + (j - 1)) ≡ 2 * i + 2 * (j - 1) = omega arith in
       let next : 2 * i + 2 * (j - 1) + 1 ≡ suc (2 * i + 2 * (j - 1)) = omega arith in
       rw (f, at, next)
       (opened_more (2 * i) (2 * (j - 1)) (lo ∷ hi ∷ []) o (omega arith) top (omega arith)
-      (wrote_part s (2 * i + 2 * j) (drop (2 * i) s) (2 * end - 2 * i) (omega arith) (omega (arith, length-drop (2 * i) s)) e)
+      (wrote_part s (2 * i + 2 * j) (drop (2 * i) s) (2 * end - 2 * i) (omega arith) (omega (arith, length-drop (2 * i) s)) (rw above at e))
       (wrote_cells s₁ (2 * i + 2 * (j - 1)) (lo ∷ hi ∷ []) (omega arith))
       (ap words_of (rw x at c) ∙ sym (words_insert i (put_from j (take m places) (keys_of m new) (keys_of n keys₀)) lo hi (fits (2 * (j - 1))))))
 

@@ -13,7 +13,6 @@ pub mod Told
 pub mod Presence
 pub mod Says
 pub mod Writing
-pub mod Lifting
 pub mod Opening
 pub mod Places
 pub mod Entering

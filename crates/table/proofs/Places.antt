@@ -43,41 +43,27 @@ in_order_lem end least (p ∷ ps) h zero (suc k) l m = above_least end p ps (ris
 in_order_lem end least (p ∷ ps) h (suc i) zero l m = absurd (omega arith)
 in_order_lem end least (p ∷ ps) h (suc i) (suc k) l m = in_order_lem end p ps (rises_on end least p ps h).rest i k (omega arith) (omega arith)
 
--- The first m places have been tested up to the j-th, and the whole is as the rest is.
-pub record Tested (n m : ℕ) (places : List ℕ) (least j : ℕ) : Type 0 where
-  pub upto : j ≤ m
-  pub rest : rising n 0 (take m places) ≡ rising n least (drop j (take m places))
+-- The first j places have been tested, and the whole is as the rest is.
+module _ (n : ℕ) (ps : List ℕ) (least j : ℕ) (t : rising n 0 ps ≡ rising n least (drop j ps)) where
+  module _ (h : j < length ps) where
+    tests : rising n 0 ps ≡ leb least (get_or ps j 0) && leb (get_or ps j 0) n && rising n (get_or ps j 0) (drop (suc j) ps)
+    unfolding rising
+    tests = t ∙ ap (rising n least) (drop-cons ps j 0 h)
+
+    pub falls : get_or ps j 0 < least → false ≡ rising n 0 ps
+    falls f = sym (tests ∙ rw (lt-leb least (get_or ps j 0) f))
+
+    pub too_far : least ≤ get_or ps j 0 → n < get_or ps j 0 → false ≡ rising n 0 ps
+    too_far f g = sym (tests ∙ rw (le-leb least (get_or ps j 0) f, lt-leb (get_or ps j 0) n g))
+
+    pub tested_more : least ≤ get_or ps j 0 → get_or ps j 0 ≤ n → rising n 0 ps ≡ rising n (get_or ps j 0) (drop (j + 1) ps)
+    tested_more f g = tests ∙ rw (le-leb least (get_or ps j 0) f, le-leb (get_or ps j 0) n g, add-one j)
+
+  pub tested_all : length ps ≤ j → true ≡ rising n 0 ps
+  unfolding rising
+  tested_all h = let none : drop j ps ≡ [] = drop_of_length-le ps h in sym (t ∙ rw none)
 
 module _ (n m : ℕ) (places : List ℕ) (l : m ≤ length places) where
-  pub tested_none : Tested n m places 0 0
-  tested_none = record { upto = omega arith; rest = refl }
-
-  module _ {least j : ℕ} (t : Tested n m places least j) (h : j < m) where
-    tests : rising n 0 (take m places)
-        ≡ leb least (get_or places j 0) && leb (get_or places j 0) n && rising n (get_or places j 0) (drop (suc j) (take m places))
-    unfolding rising
-    tests =
-        t.rest ∙ ap (rising n least) (drop-cons (take m places) j 0 (omega (arith, length-take-le m places l)))
-        ∙ rw (get_or-take m places j 0 h)
-
-    pub falls : get_or places j 0 < least → false ≡ rising n 0 (take m places)
-    falls f = sym (tests ∙ rw (lt-leb least (get_or places j 0) f))
-
-    pub too_far : least ≤ get_or places j 0 → n < get_or places j 0 → false ≡ rising n 0 (take m places)
-    too_far f g = sym (tests ∙ rw (le-leb least (get_or places j 0) f, lt-leb (get_or places j 0) n g))
-
-    pub tested_more : least ≤ get_or places j 0 → get_or places j 0 ≤ n → Tested n m places (get_or places j 0) (j + 1)
-    tested_more f g = record {
-      upto = omega arith;
-      rest = tests ∙ rw (le-leb least (get_or places j 0) f, le-leb (get_or places j 0) n g, add-one j);
-    }
-
-  pub tested_all : {least j : ℕ} → Tested n m places least j → m ≤ j → true ≡ rising n 0 (take m places)
-  unfolding rising
-  tested_all {least} {j} t h =
-      let none : drop j (take m places) ≡ [] = drop_of_length-le (take m places) {i = j} (omega (arith, length-take-le m places l)) in
-      sym (t.rest ∙ rw none)
-
   module _ (r : rising n 0 (take m places) ≡ true) where
     pub place_within : (k : ℕ) → k < m → get_or places k 0 ≤ n
     place_within k h =

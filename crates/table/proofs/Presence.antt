@@ -1,11 +1,12 @@
 -- The words of a table: the bits of all of them put together are within the counters exactly where those of each are. Assumes nothing.
 use mathlib.Core.Path.{◌≡◌, refl, sym, ap, ap₂, ◌∙◌}
 use mathlib.Core.Bool.{true, ◌&&◌, and-true, and_assoc}
-use mathlib.Core.List.{List, [], ◌∷◌}
+use mathlib.Core.List.{List, [], ◌∷◌, ◌++◌}
 use Prim.Native.Nat.{ℕ, zero, suc, ◌+◌, ◌*◌, ◌^◌, ◌%◌, ◌≤◌, ◌<◌}
 use native.Mathlib.Nat.{mod-one}
 use native.Mathlib.Omega.{arith}
 use lib.Dec.{eqb, ltb}
+use Rattle.std.specs.List.{fold}
 use lib.Bits.{bit_or, or_add_and, and_le_l, and_le_r, or_mod, or_lt, or_zero_l}
 use lib.ListN.{length, take, get_or}
 use borrow.Author.Tests.{ltb-true, lt-ltb, eqb-true, eq-eqb}
@@ -51,22 +52,14 @@ module _ (κ : Kind) (a b : ℕ) where
 -- ---- many words
 
 module _ (κ : Kind) where
-  -- One word more.
-  words_more : (ws : List ℕ) (i : ℕ) → i < length ws → words_fit κ (take (suc i) ws) ≡ words_fit κ (take i ws) && word_fits κ (get_or ws i 0)
+  -- The words put to bits that are there.
+  pub gathered : (ws : List ℕ) (bits : ℕ) → word_fits κ (fold (λ b w. bit_or b w) bits ws) ≡ word_fits κ bits && words_fit κ ws
   unfolding words_fit
-  words_more [] i h = absurd (omega arith)
-  words_more (w ∷ ws) zero h = and-true (word_fits κ w)
-  words_more (w ∷ ws) (suc i) h =
-      ap (λ b. word_fits κ w && b) (words_more ws i (omega arith)) ∙ sym (and_assoc (word_fits κ w) (words_fit κ (take i ws)) (word_fits κ (get_or ws i 0)))
+  gathered [] bits = sym (and-true (word_fits κ bits))
+  gathered (w ∷ ws) bits = gathered ws (bit_or bits w) ∙ rw (or_fits κ bits w) (and_assoc (word_fits κ bits) (word_fits κ w) (words_fit κ ws))
 
-  -- A word more among bits that were put together.
-  pub gathered_more : (ws : List ℕ) (i bits : ℕ) → i < length ws → word_fits κ bits ≡ words_fit κ (take i ws)
-      → word_fits κ (bit_or bits (get_or ws i 0)) ≡ words_fit κ (take (i + 1) ws)
-  gathered_more ws i bits h g =
-      let e : i + 1 ≡ suc i = omega arith in
-      rw e (or_fits κ bits (get_or ws i 0) ∙ ap (λ b. b && word_fits κ (get_or ws i 0)) g ∙ sym (words_more ws i h))
-
-  pub words_all : (n : ℕ) (ws : List ℕ) → n ≤ length ws → ((i : ℕ) → i < n → word_fits κ (get_or ws i 0) ≡ true) → words_fit κ (take n ws) ≡ true
+  pub words_all : (n : ℕ) (ws : List ℕ) → n ≤ length ws → ((i : ℕ) → i < n → word_fits κ (get_or ws i 0) ≡ true)
+      → words_fit κ (take n ws) ≡ true
   unfolding words_fit
   words_all zero ws l h = refl
   words_all (suc n) [] l h = absurd (omega arith)

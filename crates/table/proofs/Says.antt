@@ -1,17 +1,17 @@
--- The enum's definition tells its cases apart. Assumes nothing.
-use mathlib.Core.Path.{◌≡◌, refl}
+-- The definition of the answers tells them apart. Assumes nothing.
+use Rattle.std.proofs.Common.{◌≡◌, refl, Result, Ok, Err}
 use Rattle.table.specs.Calls.{fit_answer}
-use Rattle.table.specs.declared.FitAnswer.{FitAnswer}
-use Rattle.table.specs.declared.FitAnswer.TheVariants.{Fit, Unfit, UnsupportedK}
+use Rattle.table.specs.declared.FitError.{FitError}
+use Rattle.table.specs.declared.FitError.TheVariants.{Unfit, UnsupportedK}
 
 -- What the test of a table found is known by its answer.
-pub fit_inj : (a b : FitAnswer) → fit_answer a ≡ fit_answer b → a ≡ b
-fit_inj Fit Fit h = refl
-fit_inj Fit Unfit h = cc
-fit_inj Fit (UnsupportedK k) h = cc
-fit_inj Unfit Fit h = cc
-fit_inj Unfit Unfit h = refl
-fit_inj Unfit (UnsupportedK k) h = cc
-fit_inj (UnsupportedK k) Fit h = cc
-fit_inj (UnsupportedK k) Unfit h = cc
-fit_inj (UnsupportedK k) (UnsupportedK l) h = cc
+pub fit_inj : (a b : Result (Unit {0}) FitError) → fit_answer a ≡ fit_answer b → a ≡ b
+fit_inj (Ok s) (Ok t) h = refl
+fit_inj (Ok t) (Err Unfit) h = cc
+fit_inj (Ok t) (Err (UnsupportedK k)) h = cc
+fit_inj (Err Unfit) (Ok t) h = cc
+fit_inj (Err Unfit) (Err Unfit) h = refl
+fit_inj (Err Unfit) (Err (UnsupportedK k)) h = cc
+fit_inj (Err (UnsupportedK k)) (Ok t) h = cc
+fit_inj (Err (UnsupportedK k)) (Err Unfit) h = cc
+fit_inj (Err (UnsupportedK k)) (Err (UnsupportedK l)) h = cc

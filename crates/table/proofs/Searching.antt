@@ -4,14 +4,13 @@ use mathlib.Core.Bool.{Bool, true, false, cond, ◌&&◌}
 use mathlib.Core.List.{List}
 use Prim.Native.Nat.{ℕ, ◌/◌, ◌≤◌, ◌<◌, min}
 use native.Mathlib.Omega.{arith}
+use Rattle.std.specs.Prelude.{Result, Ok, Err}
 use lib.Dec.{ltb, eqb}
 use lib.ListN.{length, get_or}
 use borrow.Author.Tests.{ltb-true, lt-ltb, le-ltb, eqb-true}
 use Rattle.lemmas.proofs.Tests.{choose, both}
 use Rattle.graph.specs.Table.{keys_of}
 use Rattle.table.specs.Search.{key, place_between, find_between, place_of, find_in}
-use Rattle.table.specs.declared.Found.{Found}
-use Rattle.table.specs.declared.Found.TheVariants.{At, Gap}
 use Rattle.graph.proofs.Keys.{keys_length}
 use Rattle.table.proofs.Keys.{key_is}
 use Rattle.table.proofs.Halving.{Left, left_none}
@@ -37,7 +36,7 @@ module _ (n : ℕ) (words : List ℕ) (x l h : ℕ) where
 -- The search from lo to hi among the first n keys goes from l to m, cut to those that there are, and ends at i.
 module _ (n : ℕ) (words : List ℕ) (lo hi x l m i : ℕ) (e : m ≡ min (min hi n) (length words / 2)) (f : l ≡ min lo m)
     (p : m ≤ length (keys_of n words) → i ≡ place_between (keys_of n words) l m x) where
-  found_is : find_between (keys_of n words) lo hi x ≡ cond (ltb i m && eqb (get_or (keys_of n words) i 0) x) (At i) (Gap i)
+  found_is : find_between (keys_of n words) lo hi x ≡ cond (ltb i m && eqb (get_or (keys_of n words) i 0) x) (Ok i) (Err i)
   unfolding find_between
   found_is =
       let s = keys_length n words in
@@ -45,21 +44,21 @@ module _ (n : ℕ) (words : List ℕ) (lo hi x l m i : ℕ) (e : m ≡ min (min 
       let q : place_between (keys_of n words) l m x ≡ i = sym (p (omega arith)) in
       rw (c, ← f, q)
 
-  pub find_end : m ≤ i → Gap i ≡ find_between (keys_of n words) lo hi x
+  pub find_end : m ≤ i → Err i ≡ find_between (keys_of n words) lo hi x
   find_end h = sym (found_is ∙ rw (le-ltb i m h))
 
   module _ (h : i < m) (v : ℕ) (k : v ≡ key words i) where
     here : get_or (keys_of n words) i 0 ≡ v
     here = key_is n words i (omega arith) (omega arith) ∙ sym k
 
-    pub find_at : eqb v x ≡ true → At i ≡ find_between (keys_of n words) lo hi x
+    pub find_at : eqb v x ≡ true → Ok i ≡ find_between (keys_of n words) lo hi x
     find_at e = sym (found_is ∙ rw (lt-ltb i m h, here, e))
 
-    pub find_gap : eqb v x ≡ false → Gap i ≡ find_between (keys_of n words) lo hi x
+    pub find_gap : eqb v x ≡ false → Err i ≡ find_between (keys_of n words) lo hi x
     find_gap e = sym (found_is ∙ rw (lt-ltb i m h, here, e))
 
 -- From the first place to the last it is the search among all.
-pub find_all : (n : ℕ) (words : List ℕ) (x : ℕ) {f : Found} → f ≡ find_between (keys_of n words) 0 n x → f ≡ find_in (keys_of n words) x
+pub find_all : (n : ℕ) (words : List ℕ) (x : ℕ) {f : Result ℕ ℕ} → f ≡ find_between (keys_of n words) 0 n x → f ≡ find_in (keys_of n words) x
 unfolding find_between find_in place_between place_of
 find_all n words x e =
     let s = keys_length n words in
@@ -68,12 +67,12 @@ find_all n words x e =
     rw (l, z) at e
 
 -- What is found between two places stands there.
-pub between_at : (ks : List ℕ) (lo hi x i : ℕ) → find_between ks lo hi x ≡ At i → (i < length ks) × (get_or ks i 0 ≡ x)
+pub between_at : (ks : List ℕ) (lo hi x i : ℕ) → find_between ks lo hi x ≡ Ok i → (i < length ks) × (get_or ks i 0 ≡ x)
 unfolding find_between
 between_at ks lo hi x i e =
     let end = min hi (length ks) in
     let p = place_between ks (min lo end) end x in
-    choose (λ (f : Found). f ≡ At i → (i < length ks) × (get_or ks i 0 ≡ x)) (ltb p end && eqb (get_or ks p 0) x)
+    choose (λ (f : Result ℕ ℕ). f ≡ Ok i → (i < length ks) × (get_or ks i 0 ≡ x)) (ltb p end && eqb (get_or ks p 0) x)
     (λ t e.
     let s : p ≡ i = cc in
     let b = both (ltb p end) (eqb (get_or ks p 0) x) t in

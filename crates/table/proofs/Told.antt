@@ -4,13 +4,14 @@ use mathlib.Core.Bool.{Bool, true, false, cond}
 use mathlib.Core.List.{List, [], ◌∷◌}
 use Prim.Native.Nat.{ℕ}
 use native.Mathlib.Omega.{arith}
+use Rattle.std.specs.Prelude.{Result, Ok, Err}
 use Rattle.dna.specs.Answer.{Answer, gives, refuses}
 use Rattle.kmer.specs.Kmer.{ok_k}
 use Rattle.state.specs.Counted.{Kind}
 use Rattle.graph.specs.Table.{fit_for}
 use Rattle.table.specs.Calls.{fit_answer, fit_call}
-use Rattle.table.specs.declared.FitAnswer.{FitAnswer}
-use Rattle.table.specs.declared.FitAnswer.TheVariants.{Fit, Unfit, UnsupportedK}
+use Rattle.table.specs.declared.FitError.{FitError}
+use Rattle.table.specs.declared.FitError.TheVariants.{Unfit, UnsupportedK}
 
 -- ---- two tests in a row
 
@@ -34,12 +35,12 @@ passed K false u e = let z : ◌≡◌ {A = ℕ} 0 1 = cc in absurd (omega arith
 
 -- ---- the answer
 
-module _ (κ : Kind) (K n : ℕ) (keys counts : List ℕ) {r : FitAnswer} (t : fit_answer r ≡ fit_call κ K n keys counts) where
-  pub told_unsupported : {k : ℕ} → r ≡ UnsupportedK k → (ok_k K ≡ false) × (k ≡ K)
+module _ (κ : Kind) (K n : ℕ) (keys counts : List ℕ) {r : Result (Unit {0}) FitError} (t : fit_answer r ≡ fit_call κ K n keys counts) where
+  pub told_unsupported : {k : ℕ} → r ≡ Err (UnsupportedK k) → (ok_k K ≡ false) × (k ≡ K)
   told_unsupported {k} e = refused_1 K k (ok_k K) (fit_for κ K n keys counts) (sym (ap fit_answer e) ∙ t)
 
-  pub told_unfit : r ≡ Unfit → (ok_k K ≡ true) × (fit_for κ K n keys counts ≡ false)
+  pub told_unfit : r ≡ Err Unfit → (ok_k K ≡ true) × (fit_for κ K n keys counts ≡ false)
   told_unfit e = refused_5 K (ok_k K) (fit_for κ K n keys counts) (sym (ap fit_answer e) ∙ t)
 
-  pub told_fit : r ≡ Fit → (ok_k K ≡ true) × (fit_for κ K n keys counts ≡ true)
+  pub told_fit : r ≡ Ok tt → (ok_k K ≡ true) × (fit_for κ K n keys counts ≡ true)
   told_fit e = passed K (ok_k K) (fit_for κ K n keys counts) (sym (ap fit_answer e) ∙ t)

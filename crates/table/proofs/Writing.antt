@@ -27,24 +27,6 @@ module _ (s : List ℕ) (at : ℕ) (cells : List ℕ) where
 pub wrote_part : (s : List ℕ) (at : ℕ) (l : List ℕ) (n : ℕ) {s' : List ℕ} → at ≤ length s → n ≤ length l → s' ≡ paste s at l n → Wrote s at (take n l) s'
 wrote_part s at l n h k e = let long : length (take n l) ≡ n = length-take-le n l k in wrote_is s at (take n l) h (rw long e)
 
--- Four cells stored one by one are those read.
-pub four_stored : (s : List ℕ) (from to : ℕ) → from ≤ to → to + 4 ≤ length s
-    → set (set (set (set s to (get_or s from 0)) (to + 1) (get_or s (from + 1) 0)) (to + 2) (get_or s (from + 2) 0)) (to + 3) (get_or s (from + 3) 0)
-    ≡ paste s to (drop from s) 4
-four_stored s from to h l =
-    let a : to + 1 ≡ suc to = omega arith in
-    let b : to + 2 ≡ suc (suc to) = omega arith in
-    let c : to + 3 ≡ suc (suc (suc to)) = omega arith in
-    let d : from + 1 ≡ suc from = omega arith in
-    let e : from + 2 ≡ suc (suc from) = omega arith in
-    let f : from + 3 ≡ suc (suc (suc from)) = omega arith in
-    let p = drop-cons s from 0 (omega arith) in
-    let q = drop-cons s (suc from) 0 (omega arith) in
-    let r = drop-cons s (suc (suc from)) 0 (omega arith) in
-    let t = drop-cons s (suc (suc (suc from))) 0 (omega arith) in
-    rw (a, b, c, d, e, f, p, q, r, t)
-    (sets-eq (get_or s from 0 ∷ get_or s (suc from) 0 ∷ get_or s (suc (suc from)) 0 ∷ get_or s (suc (suc (suc from))) 0 ∷ []) s to (omega arith))
-
 -- A part of a list is one of its front.
 pub part_front : (i k : ℕ) (l : List ℕ) → take k (drop i l) ≡ drop i (take (i + k) l)
 part_front zero k l = rw (zero-add k)

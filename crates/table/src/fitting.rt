@@ -19,34 +19,29 @@ fn turned(byte: u8) -> u8
     !((pairs << 4) | (pairs >> 4))
 }
 
-// The word of a bound that is compared, with four bases turned at their place in it: up to K = 32 the low word, up to K = 35 all but
-// the last three bases, else the high word. A bound ends with K - 4 As, so that nothing of it is left out. 0 where K is below 5.
+// The word of a bound that is compared, with four bases turned at their place in it: up to K = 32 the low word, up to
+// K = 35 all but the last three bases, else the high word. A bound ends with K - 4 As, so that nothing of it is left
+// out. 0 where K is below 5.
 fn bound(k: usize, byte: u8) -> u64
     requires { ok_k k ≡ true }
     ensures { result * unit_of k ≡ bound_of k byte }
 {
-    if k < 5 {
-        return 0;
-    }
     let first = turned(byte) as u64;
-    if k <= 32 {
-        return first << (2 * k - 8);
+    match k {
+        0..5 => 0,
+        5..=32 => first << (2 * k - 8),
+        33..=35 => first << (2 * k - 14),
+        _ => first << (2 * k - 72),
     }
-    if k <= 35 {
-        return first << (2 * k - 14);
-    }
-    first << (2 * k - 72)
 }
 
 // The bounds of all last four bases, each as the word that is compared.
-fn make_bounds(k: usize, bounds: &mut [u64])
-    requires { (ok_k k ≡ true) × (length bounds.old ≡ 256) }
+fn make_bounds(k: usize, bounds: &mut [u64; 256])
+    requires { ok_k k ≡ true }
     ensures { Bounds k bounds.new }
 {
-    let mut b = 0;
-    while b < 256 {
-        bounds[b] = bound(k, b as u8);
-        b += 1;
+    for (b, cell) in bounds.iter_mut().enumerate() {
+        *cell = bound(k, b as u8);
     }
 }
 
@@ -56,7 +51,7 @@ fn is_key(k: usize, low: u64, high: u64) -> bool
     ensures { result ≡ ltb (joined low high) (4 ^ k) && is_canon k (joined low high) }
 {
     let x = Kmer { words: [low, high] };
-    x.is_canonical(k).unwrap_or(false)
+    matches!(x.is_canonical(k), Ok(true))
 }
 
 // A number of two words is below another.
@@ -64,9 +59,10 @@ fn below(low: u64, high: u64, other_low: u64, other_high: u64) -> bool
     ensures { result ≡ ltb (joined low high) (joined other_low other_high) }
 {
     if high == other_high {
-        return low < other_low;
+        low < other_low
+    } else {
+        high < other_high
     }
-    high < other_high
 }
 
 // The last four bases of a k-mer.
@@ -83,60 +79,46 @@ fn but_three(l: u64, h: u64) -> u64
     (l >> 6) | (h << 58)
 }
 
-// The bound of its last four bases tells that a k-mer of more than 32 bases is a key: below it, it begins before its reverse complement
-// does. From K = 36 on the low words don't matter, since that of a bound is 0; up to K = 35 the last three bases don't.
-fn is_told(k: usize, l: u64, h: u64, bounds: &[u64]) -> bool
-    requires { (32 < k) × (length bounds.now ≡ 256) × Bounds k bounds.now }
+// The bound of its last four bases tells that a k-mer of more than 32 bases is a key: below it, it begins before its
+// reverse complement does. From K = 36 on the low words don't matter, since that of a bound is 0; up to K = 35 the last
+// three bases don't.
+fn is_told(k: usize, l: u64, h: u64, bounds: &[u64; 256]) -> bool
+    requires { (32 < k) × Bounds k bounds.now }
     ensures { result ≡ true → ltb (joined l h) (4 ^ k) && is_canon k (joined l h) ≡ true }
 {
-    let b = last_four(l);
+    let bound = bounds[last_four(l)];
     if 35 < k {
-        return h < bounds[b];
+        h < bound
+    } else {
+        h < 64 && but_three(l, h) < bound
     }
-    if 63 < h {
-        return false;
-    }
-    but_three(l, h) < bounds[b]
 }
 
 // The same as `follows` for K up to 32, where a key is its low word: a k-mer with a high word is too large.
-fn low_follows(k: usize, low: u64, l: u64, h: u64, bounds: &[u64]) -> bool
-    requires { (ok_k k ≡ true) × (k ≤ 32) × (length bounds.now ≡ 256) × Bounds k bounds.now }
+fn low_follows(k: usize, low: u64, l: u64, h: u64, bounds: &[u64; 256]) -> bool
+    requires { (ok_k k ≡ true) × (k ≤ 32) × Bounds k bounds.now }
     ensures { result ≡ ltb low (joined l h) && ltb (joined l h) (4 ^ k) && is_canon k (joined l h) }
 {
-    if 0 < h {
-        return false;
-    }
-    if l <= low {
-        return false;
-    }
-    if l < bounds[last_four(l)] {
-        return true;
-    }
-    is_key(k, l, 0)
+    h == 0 && low < l && (l < bounds[last_four(l)] || is_key(k, l, 0))
 }
 
-// The k-mer of the words l and h is a key, and above the key before it. So most keys are told without their reverse complements.
-fn follows(k: usize, low: u64, high: u64, l: u64, h: u64, bounds: &[u64]) -> bool
-    requires { (ok_k k ≡ true) × (joined low high < 4 ^ k) × (length bounds.now ≡ 256) × Bounds k bounds.now }
+// The k-mer of the words l and h is a key, and above the key before it. So most keys are told without their reverse
+// complements.
+fn follows(k: usize, low: u64, high: u64, l: u64, h: u64, bounds: &[u64; 256]) -> bool
+    requires { (ok_k k ≡ true) × (joined low high < 4 ^ k) × Bounds k bounds.now }
     ensures { result ≡ ltb (joined low high) (joined l h) && ltb (joined l h) (4 ^ k) && is_canon k (joined l h) }
 {
     if k <= 32 {
-        return low_follows(k, low, l, h, bounds);
+        low_follows(k, low, l, h, bounds)
+    } else {
+        below(low, high, l, h) && (is_told(k, l, h, bounds) || is_key(k, l, h))
     }
-    if !below(low, high, l, h) {
-        return false;
-    }
-    if is_told(k, l, h, bounds) {
-        return true;
-    }
-    is_key(k, l, h)
 }
 
 // The first k-mer is a key, and each other one follows the one before it. The cases of K are asked of each key: the compiler makes a
 // loop of each.
-fn all_fit(k: usize, n: usize, keys: &[u64], bounds: &[u64]) -> bool
-    requires { (ok_k k ≡ true) × (0 < n) × (n ≤ length keys.now / 2) × (length bounds.now ≡ 256) × Bounds k bounds.now }
+fn all_fit(k: usize, n: usize, keys: &[u64], bounds: &[u64; 256]) -> bool
+    requires { (ok_k k ≡ true) × (0 < n) × (n ≤ length keys.now / 2) × Bounds k bounds.now }
     ensures { result ≡ fit_from k 0 (keys_of n keys.now) }
 {
     let mut low = keys[0];
@@ -144,8 +126,7 @@ fn all_fit(k: usize, n: usize, keys: &[u64], bounds: &[u64]) -> bool
     if !is_key(k, low, high) {
         return false;
     }
-    let mut i = 1;
-    while i < n {
+    for i in 1..n {
         let l = keys[2 * i];
         let h = keys[2 * i + 1];
         if !follows(k, low, high, l, h, bounds) {
@@ -153,7 +134,6 @@ fn all_fit(k: usize, n: usize, keys: &[u64], bounds: &[u64]) -> bool
         }
         low = l;
         high = h;
-        i += 1;
     }
     true
 }

@@ -6,7 +6,7 @@ ghost use Rattle.table.specs.Search.{key, place_between, find_between, find_in};
 
 use kmer::Kmer;
 
-// Key i.
+// Key i. Each crate that reads keys has its own: a public one would have a `requires`, and no public function has one.
 pub(crate) fn key_at(keys: &[u64], i: usize) -> Kmer
     requires { i < length keys.now / 2 }
     ensures { value_of result ≡ key keys.now i }
@@ -19,7 +19,8 @@ pub(crate) fn key_at(keys: &[u64], i: usize) -> Kmer
 // The places from one up to another halved until one is left: the first whose key is not below x, where keys ascend.
 fn place_of(lo: usize, hi: usize, keys: &[u64], x: Kmer) -> usize
     requires { (lo ≤ hi) × (hi ≤ length keys.now / 2) }
-    ensures { (n : ℕ) → hi ≤ length (keys_of n keys.now) → result ≡ place_between (keys_of n keys.now) lo hi (value_of x) }
+    ensures { (n : ℕ) → hi ≤ length (keys_of n keys.now)
+        → result ≡ place_between (keys_of n keys.now) lo hi (value_of x) }
 {
     let mut first = lo;
     let mut end = hi;

@@ -10,10 +10,7 @@ use state::EdgeKind;
 fn is_presence(word: u32) -> bool
     ensures { result ≡ word_fits presence word }
 {
-    if word % 8 != 0 {
-        return false;
-    }
-    word < 2048
+    word % 8 == 0 && word < 2048
 }
 
 // The bits of the first n words put together. No word ends the loop, so that the compiler can take several at a time.
@@ -21,13 +18,7 @@ fn bits_of(n: usize, counts: &[u32]) -> u32
     requires { n ≤ length counts.now }
     ensures { word_fits presence result ≡ words_fit presence (take n counts.now) }
 {
-    let mut bits = 0;
-    let mut i = 0;
-    while i < n {
-        bits = bits | counts[i];
-        i += 1;
-    }
-    bits
+    counts[..n].iter().fold(0, |bits, word| bits | *word)
 }
 
 // Counters fill their word: each is fit.

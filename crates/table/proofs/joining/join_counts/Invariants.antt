@@ -1,7 +1,5 @@
 -- Each turn moves the counts behind a place up and puts in the new one. Assumes nothing.
-use mathlib.Core.Path.{◌≡◌}
-use Prim.Native.Nat.{◌+◌}
-use lib.ListN.{length, drop}
+use Rattle.std.proofs.Common.{◌+◌, drop}
 use Rattle.table.proofs.Opening.{Opened}
 use Rattle.table.proofs.Entering.{Upto}
 use Rattle.table.proofs.CountsIn.{counts_from}
@@ -9,8 +7,6 @@ use Rattle.table.proofs.joining.join_counts.Given as goal
 
 abbrev pub invariant-loop-j : goal.invariant-loop-j
 invariant-loop-j l =
-    Upto l.n l.m l.places l.end l.j × (length l.counts ≡ length l.initial.counts)
-    × Opened (counts_from l.n l.m l.places l.new_counts l.initial.counts l.j) (drop (l.n + l.m) l.initial.counts) l.counts l.end l.j
-
-abbrev pub decreases-loop-j : goal.decreases-loop-j
-decreases-loop-j l = l.j
+    Upto l.n l.m l.places l.end l.j
+    × Opened (counts_from l.n l.m l.places l.new_counts l.initial.counts l.j) (drop (l.n + l.m) l.initial.counts)
+    l.counts l.end l.j

@@ -1,7 +1,5 @@
 -- Each turn moves the words behind a place up and puts in those of the new key. Assumes nothing.
-use mathlib.Core.Path.{◌≡◌}
-use Prim.Native.Nat.{◌+◌, ◌*◌}
-use lib.ListN.{length, drop}
+use Rattle.std.proofs.Common.{◌+◌, ◌*◌, drop}
 use Rattle.table.proofs.Opening.{Opened}
 use Rattle.table.proofs.Entering.{Upto}
 use Rattle.table.proofs.KeysIn.{words_from}
@@ -9,8 +7,6 @@ use Rattle.table.proofs.joining.join_keys.Given as goal
 
 abbrev pub invariant-loop-j : goal.invariant-loop-j
 invariant-loop-j l =
-    Upto l.n l.m l.places l.end l.j × (length l.keys ≡ length l.initial.keys)
-    × Opened (words_from l.n l.m l.places l.new_keys l.initial.keys l.j) (drop (2 * l.n + 2 * l.m) l.initial.keys) l.keys (2 * l.end) (2 * l.j)
-
-abbrev pub decreases-loop-j : goal.decreases-loop-j
-decreases-loop-j l = l.j
+    Upto l.n l.m l.places l.end l.j
+    × Opened (words_from l.n l.m l.places l.new_keys l.initial.keys l.j) (drop (2 * l.n + 2 * l.m) l.initial.keys)
+    l.keys (2 * l.end) (2 * l.j)

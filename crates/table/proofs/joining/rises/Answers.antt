@@ -1,21 +1,18 @@
-use native.Mathlib.Omega.{arith}
-use Rattle.table.proofs.Places.{tested_none, falls, too_far, tested_more, tested_all}
+use Rattle.table.proofs.Places.{falls, too_far, tested_more, tested_all}
 use Rattle.table.proofs.joining.rises.Goals as goal
-
-pub loop-j-init : goal.loop-j-init
-loop-j-init c = tested_none c.args.n c.args.m c.args.places.now c.requires
+use Rattle.table.proofs.joining.rises.Goals.{then-place-least-via-then-place-least, then-place-least-via-else-place-least+then-n-place}
 
 pub returns-then-place-least : goal.returns-then-place-least
-returns-then-place-least c = falls c.args.n c.args.m c.args.places.now c.requires c.loop-j.invariant (omega arith) (omega arith)
+returns-then-place-least c =
+    let t = c.loop-place.invariant in
+    let h = c.loop-place-test.true in
+    elim c.then-place-least.branch [
+      | then-place-least-via-then-place-least w ↦ falls _ _ _ _ t h w.if-place-least.true
+      | then-place-least-via-else-place-least+then-n-place w ↦ too_far _ _ _ _ t h w.if-place-least.false w.if-n-place.true
+    ]
 
-pub overflow_cast-place : goal.overflow_cast-place
-overflow_cast-place c = omega (arith, c.type_inv.places c.loop-j.j)
-
-pub returns-then-n-place : goal.returns-then-n-place
-returns-then-n-place c = too_far c.args.n c.args.m c.args.places.now c.requires c.loop-j.invariant (omega arith) (omega arith) (omega arith)
-
-pub loop-j-preserved : goal.loop-j-preserved
-loop-j-preserved c = tested_more c.args.n c.args.m c.args.places.now c.requires c.loop-j.invariant (omega arith) (omega arith) (omega arith)
+pub loop-place-preserved : goal.loop-place-preserved
+loop-place-preserved c = tested_more _ _ _ _ c.loop-place.invariant c.loop-place-test.true c.if-place-least.false c.if-n-place.false
 
 pub returns : goal.returns
-returns c = tested_all c.args.n c.args.m c.args.places.now c.requires c.loop-j.invariant (omega arith)
+returns c = tested_all _ _ _ _ c.loop-place.invariant c.loop-place-test.false

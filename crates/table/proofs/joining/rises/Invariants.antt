@@ -1,10 +1,7 @@
--- Each place is tested against the one before it and the end. Assumes nothing.
-use Prim.Native.Nat.{◌-◌}
-use Rattle.table.proofs.Places.{Tested}
+-- The places passed have been tested, and the whole is as the rest is. Assumes nothing.
+use Rattle.std.proofs.Common.{◌≡◌, take, drop}
+use Rattle.table.specs.Join.{rising}
 use Rattle.table.proofs.joining.rises.Given as goal
 
-abbrev pub invariant-loop-j : goal.invariant-loop-j
-invariant-loop-j l = Tested l.n l.m l.places l.least l.j
-
-abbrev pub decreases-loop-j : goal.decreases-loop-j
-decreases-loop-j l = l.m - l.j
+abbrev pub invariant-loop-place : goal.invariant-loop-place
+invariant-loop-place l = let ps = take l.m l.places in rising l.n 0 ps ≡ rising l.n l.least (drop l.place-index ps)

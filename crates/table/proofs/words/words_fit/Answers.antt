@@ -1,5 +1,5 @@
 -- Counters fill their word; presence bits are tested. Assumes nothing.
-use mathlib.Core.Path.{sym, ◌∙◌}
+use Rattle.std.proofs.Common.{sym}
 use Rattle.state.specs.Counted.{four_bits}
 use Rattle.table.proofs.Presence.{words_all, four_fits}
 use Rattle.table.proofs.words.words_fit.Goals as goal
@@ -9,6 +9,3 @@ returns-in-Counted c =
     let known = c.type_inv.counts in
     rw c.in-Counted.is
     (sym (words_all four_bits c.args.n c.args.counts.now c.requires (λ i b. four_fits _ (known i).fits)))
-
-pub returns-in-Presence : goal.returns-in-Presence
-returns-in-Presence c = rw c.in-Presence.is (c.is_presence.ensures ∙ c.bits_of.ensures)
