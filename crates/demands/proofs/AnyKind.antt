@@ -6,6 +6,7 @@ use mathlib.Core.List.{List, [], ◌∷◌, map}
 use Prim.Native.Nat.{ℕ, ◌≤◌}
 use native.Mathlib.Omega.{arith}
 use lib.ListN.{length}
+use Rattle.std.proofs.Common.{Result}
 use Rattle.dna.specs.Answer.{Answer}
 use Rattle.state.specs.Counted.{top, answers_for}
 use Rattle.state.specs.declared.EdgeKind.{EdgeKind}
@@ -14,12 +15,15 @@ use Rattle.state.specs.Says.{kind_of}
 use Rattle.graph.specs.Adding.{Edges, Added, stored_after, add_label}
 use Rattle.graph.specs.Several.{Several, untried, add_labels}
 use Rattle.graph.specs.Contraction.{contract}
-use Rattle.adding.specs.declared.AddAnswer.{AddAnswer}
-use Rattle.adding.specs.declared.LabelsAnswer.{LabelsAnswer}
+use Rattle.adding.specs.declared.Addition.{Addition}
+use Rattle.adding.specs.declared.AddError.{AddError}
+use Rattle.adding.specs.declared.Additions.{Additions}
+use Rattle.adding.specs.declared.OutOfText.{OutOfText}
 use Rattle.adding.specs.declared.Mode.{Mode}
 use Rattle.adding.specs.Says.{add_answer, rule_of, AddsLabels}
 use Rattle.adding.proofs.Says.{add_inj, labels_inj}
-use Rattle.contraction.specs.declared.ContractAnswer.{ContractAnswer}
+use Rattle.contraction.specs.declared.Unitigs.{Unitigs}
+use Rattle.contraction.specs.declared.ContractError.{ContractError}
 use Rattle.contraction.specs.Says.{Contracts}
 use Rattle.contraction.proofs.Says.{contracts_one}
 use Rattle.laws.specs.Beside.{after_each, answers_to}
@@ -46,7 +50,7 @@ presence_answered = record { low = omega arith; low' = omega arith; answers = re
 pub call_lists : {kind kind' : EdgeKind} {m : Mode} {K : ℕ} {ls : List (List ℕ)} {n n' : ℕ} {keys counts keys' counts' : List ℕ}
     → Called kind m K ls n keys counts → Called kind' m K ls n' keys' counts' → {cutoff : ℕ} → Answered kind kind' cutoff
     → (labels starts lengths marks : List ℕ)
-    → (r s : ContractAnswer) {labels₁ starts₁ lengths₁ marks₁ labels₂ starts₂ lengths₂ marks₂ : List ℕ}
+    → (r s : Result Unitigs ContractError) {labels₁ starts₁ lengths₁ marks₁ labels₂ starts₂ lengths₂ marks₂ : List ℕ}
     → Contracts r labels₁ starts₁ lengths₁ marks₁ (contract (kind_of kind) K cutoff n keys counts labels starts lengths marks)
     → Contracts s labels₂ starts₂ lengths₂ marks₂ (contract (kind_of kind') K cutoff n' keys' counts' labels starts lengths marks)
     → (r ≡ s) × (labels₁ ≡ labels₂) × (starts₁ ≡ starts₂) × (lengths₁ ≡ lengths₂) × (marks₁ ≡ marks₂)
@@ -56,27 +60,29 @@ call_lists g h {cutoff} a labels starts lengths marks r s c d =
 
 -- ---- labels given one by one, refused ones too
 
-answers_inj : (rs ss : List AddAnswer) → map add_answer rs ≡ map add_answer ss → rs ≡ ss
+answers_inj : (rs ss : List (Result Addition AddError)) → map add_answer rs ≡ map add_answer ss → rs ≡ ss
 answers_inj [] [] e = refl
 answers_inj [] (s ∷ ss) e = absurd (let z : ◌≡◌ {A = ℕ} 0 1 = cc in omega arith)
 answers_inj (r ∷ rs) [] e = absurd (let z : ◌≡◌ {A = ℕ} 0 1 = cc in omega arith)
 answers_inj (r ∷ rs) (s ∷ ss) e =
     let p : add_answer r ≡ add_answer s = cc in
     let q : map add_answer rs ≡ map add_answer ss = cc in
-    ap₂ (λ (a : AddAnswer) (rest : List AddAnswer). a ∷ rest) (add_inj r s p) (answers_inj rs ss q)
+    ap₂ (λ (a : Result Addition AddError) (rest : List (Result Addition AddError)). a ∷ rest)
+    (add_inj r s p) (answers_inj rs ss q)
 
 -- Such a run is the definition's.
 module _ (kind : EdgeKind) (m : Mode) (K : ℕ) (keys₀ counts₀ : List ℕ) where
   abbrev after : List (List ℕ) → Several
   after ls = after_each (kind_of kind) (rule_of m) K (untried 0 keys₀ counts₀) ls
 
-  record Is (ls : List (List ℕ)) (rs : List AddAnswer) (n : ℕ) (keys counts : List ℕ) : Type 0 where
+  record Is (ls : List (List ℕ)) (rs : List (Result Addition AddError)) (n : ℕ) (keys counts : List ℕ) : Type 0 where
     answers : map add_answer rs ≡ answers_to (kind_of kind) (rule_of m) K (untried 0 keys₀ counts₀) ls
     stored : n ≡ (after ls).stored
     keys_are : keys ≡ (after ls).keys
     counts_are : counts ≡ (after ls).counts
 
-  given_is : {ls : List (List ℕ)} {rs : List AddAnswer} {n : ℕ} {keys counts : List ℕ} → Given kind m K keys₀ counts₀ ls rs n keys counts
+  given_is : {ls : List (List ℕ)} {rs : List (Result Addition AddError)} {n : ℕ} {keys counts : List ℕ}
+      → Given kind m K keys₀ counts₀ ls rs n keys counts
       → Is ls rs n keys counts
   unfolding after_each answers_to
   given_is none = record { answers = refl; stored = refl; keys_are = refl; counts_are = refl }
@@ -94,7 +100,7 @@ module _ (kind : EdgeKind) (m : Mode) (K : ℕ) (keys₀ counts₀ : List ℕ) w
       }
 
 module _ {kind kind' : EdgeKind} {m : Mode} {K : ℕ} {keys₀ counts₀ counts₀' : List ℕ} (long : length counts₀' ≡ length counts₀)
-    {ls : List (List ℕ)} {rs rs' : List AddAnswer} {n n' : ℕ} {keys counts keys' counts' : List ℕ}
+    {ls : List (List ℕ)} {rs rs' : List (Result Addition AddError)} {n n' : ℕ} {keys counts keys' counts' : List ℕ}
     (g : Given kind m K keys₀ counts₀ ls rs n keys counts) (h : Given kind' m K keys₀ counts₀' ls rs' n' keys' counts') where
   i : Is kind m K keys₀ counts₀ ls rs n keys counts
   i = given_is kind m K keys₀ counts₀ g
@@ -113,7 +119,7 @@ module _ {kind kind' : EdgeKind} {m : Mode} {K : ℕ} {keys₀ counts₀ counts�
 
   -- Contraction answers and leaves the same.
   pub given_lists : {cutoff : ℕ} → Answered kind kind' cutoff → (labels starts lengths marks : List ℕ)
-      → (r s : ContractAnswer) {labels₁ starts₁ lengths₁ marks₁ labels₂ starts₂ lengths₂ marks₂ : List ℕ}
+      → (r s : Result Unitigs ContractError) {labels₁ starts₁ lengths₁ marks₁ labels₂ starts₂ lengths₂ marks₂ : List ℕ}
       → Contracts r labels₁ starts₁ lengths₁ marks₁ (contract (kind_of kind) K cutoff n keys counts labels starts lengths marks)
       → Contracts s labels₂ starts₂ lengths₂ marks₂ (contract (kind_of kind') K cutoff n' keys' counts' labels starts lengths marks)
       → (r ≡ s) × (labels₁ ≡ labels₂) × (starts₁ ≡ starts₂) × (lengths₁ ≡ lengths₂) × (marks₁ ≡ marks₂)
@@ -127,7 +133,8 @@ module _ {kind kind' : EdgeKind} {m : Mode} {K : ℕ} {keys₀ counts₀ counts�
 -- To two tables with the same keys that calls have made by the same labels.
 pub labels_same : {kind kind' : EdgeKind} {m : Mode} {K : ℕ} {ls : List (List ℕ)} {n : ℕ} {keys counts counts' : List ℕ}
     → Called kind m K ls n keys counts → Called kind' m K ls n keys counts' → length counts' ≡ length counts
-    → (text starts lengths : List ℕ) (count : ℕ) (r s : LabelsAnswer) {keys₁ counts₁ keys₂ counts₂ : List ℕ}
+    → (text starts lengths : List ℕ) (count : ℕ) (r s : Result Additions OutOfText)
+    {keys₁ counts₁ keys₂ counts₂ : List ℕ}
     → AddsLabels n r keys₁ counts₁ (add_labels (kind_of kind) (rule_of m) K n keys counts text starts lengths count)
     → AddsLabels n s keys₂ counts₂ (add_labels (kind_of kind') (rule_of m) K n keys counts' text starts lengths count)
     → (s ≡ r) × (keys₂ ≡ keys₁)

@@ -4,6 +4,7 @@ use mathlib.Core.List.{List, [], ◌∷◌}
 use Prim.Native.Nat.{ℕ, suc, ◌-◌, ◌≤◌}
 use native.Mathlib.Omega.{arith}
 use lib.ListN.{take}
+use Rattle.std.proofs.Common.{Result, Ok, Err}
 use Rattle.dna.proofs.Answers.{either}
 use Rattle.lemmas.proofs.Tests.{choose}
 use Rattle.state.specs.Counted.{Kind}
@@ -15,8 +16,8 @@ use Rattle.graph.specs.Several.{Several, untried, add_next, add_each, add_labels
 use Rattle.graph.proofs.Accepted.{refused_same}
 use Rattle.graph.proofs.Several.{none_after}
 use Rattle.laws.specs.Grown.{Grown, Grown.accepts}
-use Rattle.adding.specs.declared.LabelsAnswer.{LabelsAnswer}
-use Rattle.adding.specs.declared.LabelsAnswer.TheVariants.{Tried, OutOfText}
+use Rattle.adding.specs.declared.Additions.{Additions}
+use Rattle.adding.specs.declared.OutOfText.{OutOfText}
 use Rattle.adding.specs.Says.{AddsLabels}
 use Rattle.demands.specs.Calls.{onto, added_by, stored_by}
 
@@ -71,8 +72,8 @@ module _ {κ : Kind} {rule : Rule} {K : ℕ} {done : List (List ℕ)} {n : ℕ} 
       (λ _. rw e at (grows κ rule K (untried n keys counts) (listed count text starts lengths) done g).grown) (λ _. g)
 
   -- A call of `add_labels`, known by its contract.
-  pub added_grown : {r : LabelsAnswer} {keys' counts' : List ℕ}
+  pub added_grown : {r : Result Additions OutOfText} {keys' counts' : List ℕ}
       → AddsLabels n r keys' counts' (add_labels κ rule K n keys counts text starts lengths count)
       → Grown κ rule K (onto (take (added_by r) (listed count text starts lengths)) done) (stored_by n r) keys' counts'
-  added_grown {r = Tried m stored last} a = rw (a.says.0, a.says.1, a.keys_after, a.counts_after) index_grown
-  added_grown {r = OutOfText} a = rw (a.keys_after, a.counts_after) (rw (← a.says.0, ← a.says.1) at index_grown)
+  added_grown {r = Ok t} a = rw (a.says.0, a.says.1, a.keys_after, a.counts_after) index_grown
+  added_grown {r = Err e} a = rw (a.keys_after, a.counts_after) (rw (← a.says.0, ← a.says.1) at index_grown)

@@ -8,6 +8,7 @@ use native.Mathlib.Omega.{arith}
 use lib.Dec.{ltb}
 use lib.ListN.{length, take, drop}
 use lib.Seq.{take-append_seam}
+use Rattle.std.proofs.Common.{Option, Some, None, Result, Ok, Err}
 use Rattle.lemmas.proofs.Tests.{choose}
 use Rattle.dna.specs.Answer.{gives, Filled}
 use Rattle.kmer.specs.Kmer.{ok_k}
@@ -23,11 +24,10 @@ use Rattle.graph.specs.Fasta.{records_of, fasta}
 use Rattle.graph.proofs.Accepted.{fit_sound, fit_for_both}
 use Rattle.adding.specs.declared.Mode.{Mode}
 use Rattle.adding.specs.declared.Mode.TheVariants as mode
-use Rattle.contraction.specs.declared.ContractAnswer.{ContractAnswer}
-use Rattle.contraction.specs.declared.ContractAnswer.TheVariants as answers
+use Rattle.contraction.specs.declared.Unitigs.{Unitigs}
+use Rattle.contraction.specs.declared.ContractError.{ContractError}
 use Rattle.contraction.specs.Says.{contract_answer, Contracts}
-use Rattle.fasta.specs.declared.FastaAnswer.{FastaAnswer}
-use Rattle.fasta.specs.declared.FastaAnswer.TheVariants.{Written}
+use Rattle.fasta.specs.declared.FastaError.{FastaError}
 use Rattle.fasta.specs.Says.{fasta_answer, Lists}
 use Rattle.laws.specs.Demand.{OneBase}
 use Rattle.rules.specs.Listing.{Lists as Holds}
@@ -38,8 +38,9 @@ use Rattle.rules.specs.Judging.{judge}
 use Rattle.rules.proofs.Listing.{lists_labels}
 use Rattle.rules.proofs.Verdicts.{yes_passes, yes_complete}
 use Rattle.rules.proofs.Judging.{call_says, call_judges, own_fasta}
-use Rattle.judging.specs.declared.JudgeAnswer.{JudgeAnswer}
-use Rattle.judging.specs.declared.JudgeAnswer.TheVariants as judged
+use Rattle.judging.specs.declared.Broken.{Broken}
+use Rattle.judging.specs.declared.JudgeError.{JudgeError}
+use Rattle.judging.specs.declared.JudgeError.TheVariants as judge_errors
 use Rattle.judging.specs.Answers.{judge_answer, Judges}
 use Rattle.demands.specs.Calls.{excepted, Called}
 use Rattle.demands.proofs.Meets.{lawful, called_grown}
@@ -50,19 +51,20 @@ only_bases mode.SameCanonical K x o = o
 only_bases mode.Reversed K x o = absurd o
 
 -- Yes is said by one answer alone.
-passes_only : (v : JudgeAnswer) → judge_answer v ≡ gives yes → v ≡ judged.Passes
-passes_only judged.Passes e = refl
-passes_only (judged.Breaks rule label) e = absurd (let z : ◌≡◌ {A = ℕ} 0 1 = cc in omega arith)
-passes_only (judged.UnsupportedK K) e = absurd (let z : ◌≡◌ {A = ℕ} 0 1 = cc in omega arith)
-passes_only judged.Unfit e = absurd (let z : ◌≡◌ {A = ℕ} 0 1 = cc in omega arith)
-passes_only judged.WrongCutoff e = absurd (let z : ◌≡◌ {A = ℕ} 0 1 = cc in omega arith)
-passes_only judged.FewMarks e = absurd (let z : ◌≡◌ {A = ℕ} 0 1 = cc in omega arith)
-passes_only judged.EvenK e = absurd (let z : ◌≡◌ {A = ℕ} 0 1 = cc in omega arith)
-passes_only judged.NoList e = absurd (let z : ◌≡◌ {A = ℕ} 0 1 = cc in omega arith)
+passes_only : (v : Result (Option Broken) JudgeError) → judge_answer v ≡ gives yes → v ≡ Ok None
+passes_only (Ok None) e = refl
+passes_only (Ok (Some b)) e = absurd (let z : ◌≡◌ {A = ℕ} 0 1 = cc in omega arith)
+passes_only (Err (judge_errors.UnsupportedK K)) e = absurd (let z : ◌≡◌ {A = ℕ} 0 1 = cc in omega arith)
+passes_only (Err judge_errors.Unfit) e = absurd (let z : ◌≡◌ {A = ℕ} 0 1 = cc in omega arith)
+passes_only (Err judge_errors.WrongCutoff) e = absurd (let z : ◌≡◌ {A = ℕ} 0 1 = cc in omega arith)
+passes_only (Err judge_errors.FewMarks) e = absurd (let z : ◌≡◌ {A = ℕ} 0 1 = cc in omega arith)
+passes_only (Err judge_errors.EvenK) e = absurd (let z : ◌≡◌ {A = ℕ} 0 1 = cc in omega arith)
+passes_only (Err judge_errors.NoList) e = absurd (let z : ◌≡◌ {A = ℕ} 0 1 = cc in omega arith)
 
 -- ---- a call of `judge`, known by its contract
 
-module _ (kind : EdgeKind) (K cutoff n : ℕ) (keys counts text marks : List ℕ) {r : JudgeAnswer} {marks' : List ℕ}
+module _ (kind : EdgeKind) (K cutoff n : ℕ) (keys counts text marks : List ℕ) {r : Result (Option Broken) JudgeError}
+    {marks' : List ℕ}
     (c : Judges r marks' (judge (kind_of kind) K cutoff n keys counts text marks)) where
   abbrev ks : List ℕ
   ks = keys_of n keys
@@ -71,7 +73,7 @@ module _ (kind : EdgeKind) (K cutoff n : ℕ) (keys counts text marks : List ℕ
   es = ends_in (kind_of kind) cutoff (table_of n keys counts)
 
   -- Where it answers yes, the text holds a list that keeps the four rules;
-  pub call_yes : r ≡ judged.Passes → (ls : List (List ℕ)) × Holds K text ls × Passes K ks es ls
+  pub call_yes : r ≡ Ok None → (ls : List (List ℕ)) × Holds K text ls × Passes K ks es ls
   call_yes e =
       let s = call_says (kind_of kind) K cutoff n keys counts text marks yes (sym c.answer ∙ ap judge_answer e) in
       let fits = (fit_sound K n keys counts (fit_for_both (kind_of kind) K n keys counts s.fits).0).fits in
@@ -79,7 +81,7 @@ module _ (kind : EdgeKind) (K cutoff n : ℕ) (keys counts text marks : List ℕ
 
   -- where the text holds such a list and nothing is refused, it answers yes;
   pub call_passes : ok_k K ≡ true → fit_for (kind_of kind) K n keys counts ≡ true → answers_for (kind_of kind) cutoff ≡ true → n ≤ length marks
-      → K % 2 ≡ 1 → {ls : List (List ℕ)} → Holds K text ls → Passes K ks es ls → r ≡ judged.Passes
+      → K % 2 ≡ 1 → {ls : List (List ℕ)} → Holds K text ls → Passes K ks es ls → r ≡ Ok None
   call_passes ok fits asked room odd {ls} l p =
       let f = (fit_sound K n keys counts (fit_for_both (kind_of kind) K n keys counts fits).0).fits in
       passes_only r
@@ -87,7 +89,8 @@ module _ (kind : EdgeKind) (K cutoff n : ℕ) (keys counts text marks : List ℕ
       ∙ ap gives (yes_complete K ks es (ok_bounds K ok).0 odd f ls (lists_labels K l) p))
 
   -- where it answers no, the text holds a list whose first broken rule and lowest label concerned it names.
-  pub call_no : {rule label : ℕ} → r ≡ judged.Breaks rule label → (ls : List (List ℕ)) × Holds K text ls × Judged K ks es ls (no rule label)
+  pub call_no : {rule label : ℕ} → r ≡ Ok (Some (record { rule = rule; label = label }))
+      → (ls : List (List ℕ)) × Holds K text ls × Judged K ks es ls (no rule label)
   call_no {rule} {label} e =
       let s = call_says (kind_of kind) K cutoff n keys counts text marks (no rule label) (sym c.answer ∙ ap judge_answer e) in
       (s.labels, s.lists, s.says)
@@ -95,8 +98,9 @@ module _ (kind : EdgeKind) (K cutoff n : ℕ) (keys counts text marks : List ℕ
 -- ---- what our own calls list
 
 -- What was written is the records.
-written : {f : FastaAnswer} (out : List ℕ) {out' : List ℕ} {size : ℕ} (labels starts lengths : List ℕ) (count : ℕ)
-    → Lists f out' (fasta labels starts lengths count out) → f ≡ Written size → take size out'
+written : {f : Result ℕ FastaError} (out : List ℕ) {out' : List ℕ} {size : ℕ} (labels starts lengths : List ℕ)
+    (count : ℕ)
+    → Lists f out' (fasta labels starts lengths count out) → f ≡ Ok size → take size out'
     ≡ records_of (listed count labels starts lengths)
 unfolding fasta
 written {f} out {out'} {size} labels starts lengths count d e =
@@ -115,13 +119,15 @@ written {f} out {out'} {size} labels starts lengths count d e =
 -- marks: the call of `judge` with the bytes written says yes.
 pub call_judged : {kind : EdgeKind} {m : Mode} {K : ℕ} {ls : List (List ℕ)} {n : ℕ} {keys counts : List ℕ}
     → Called kind m K ls n keys counts
-    → K % 2 ≡ 1 → (cutoff : ℕ) (labels starts lengths marks : List ℕ) {r : ContractAnswer} {labels' starts' lengths' marks' : List ℕ}
+    → K % 2 ≡ 1 → (cutoff : ℕ) (labels starts lengths marks : List ℕ) {r : Result Unitigs ContractError}
+    {labels' starts' lengths' marks' : List ℕ}
     → Contracts r labels' starts' lengths' marks' (contract (kind_of kind) K cutoff n keys counts labels starts lengths marks)
-    → {number bases : ℕ} → r ≡ answers.Contracted number bases
-    → (out : List ℕ) {f : FastaAnswer} {out' : List ℕ} → Lists f out' (fasta labels' starts' lengths' number out) → {size : ℕ} → f
-    ≡ Written size
-    → (spare : List ℕ) → n ≤ length spare → {v : JudgeAnswer} {spare' : List ℕ}
-    → Judges v spare' (judge (kind_of kind) K cutoff n keys counts (take size out') spare) → v ≡ judged.Passes
+    → {number bases : ℕ} → r ≡ Ok (record { labels = number; bases = bases })
+    → (out : List ℕ) {f : Result ℕ FastaError} {out' : List ℕ}
+    → Lists f out' (fasta labels' starts' lengths' number out) → {size : ℕ} → f
+    ≡ Ok size
+    → (spare : List ℕ) → n ≤ length spare → {v : Result (Option Broken) JudgeError} {spare' : List ℕ}
+    → Judges v spare' (judge (kind_of kind) K cutoff n keys counts (take size out') spare) → v ≡ Ok None
 call_judged {kind} {m} {K} {n = n} {keys = keys} {counts = counts} g odd cutoff labels starts lengths marks
     {labels' = labels'} {starts' = starts'} {lengths' = lengths'} c {number} {bases} e out {out' = out'} d {size} w spare h {v} j =
     let t : Totals = record { labels = number; bases = bases } in

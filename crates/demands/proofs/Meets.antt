@@ -6,6 +6,7 @@ use mathlib.Core.Logic.{◌⊎◌}
 use mathlib.Core.List.{List, []}
 use Prim.Native.Nat.{ℕ, ◌*◌, ◌%◌, ◌≤◌, ◌<◌}
 use lib.ListN.{length, get_or, take}
+use Rattle.std.proofs.Common.{Result, Ok, Err}
 use Rattle.dna.specs.Answer.{gives, refuses}
 use Rattle.state.specs.declared.EdgeKind.{EdgeKind}
 use Rattle.state.specs.Says.{kind_of}
@@ -16,12 +17,14 @@ use Rattle.graph.specs.Walks.{isolated}
 use Rattle.graph.specs.Contraction.{Totals, Contracted, ends_in, contract}
 use Rattle.graph.proofs.Keys.{keys_copied}
 use Rattle.graph.proofs.Accepted.{refused_same}
-use Rattle.adding.specs.declared.AddAnswer.{AddAnswer}
+use Rattle.adding.specs.declared.Addition.{Addition}
+use Rattle.adding.specs.declared.AddError.{AddError}
 use Rattle.adding.specs.declared.Mode.{Mode}
 use Rattle.adding.specs.declared.Mode.TheVariants as mode
 use Rattle.adding.specs.Says.{add_answer, rule_of, Adds}
-use Rattle.contraction.specs.declared.ContractAnswer.{ContractAnswer}
-use Rattle.contraction.specs.declared.ContractAnswer.TheVariants as answers
+use Rattle.contraction.specs.declared.Unitigs.{Unitigs}
+use Rattle.contraction.specs.declared.ContractError.{ContractError}
+use Rattle.contraction.specs.declared.ContractError.TheVariants as contract_errors
 use Rattle.contraction.specs.Says.{contract_answer, Contracts}
 use Rattle.laws.specs.Grown.{Grown, Grown.fresh, Grown.accepts, Grown.moves}
 use Rattle.laws.specs.Windows.{occurrences}
@@ -60,7 +63,8 @@ called_grown (elsewhere c keys' counts' e) = moves (called_grown c) keys' counts
 
 -- A refused call leaves the table as it was.
 pub called_refused : {kind : EdgeKind} {m : Mode} {K : ℕ} {ls : List (List ℕ)} {n : ℕ} {keys counts : List ℕ} → Called kind m K ls n keys counts
-    → (l : List ℕ) {r : AddAnswer} {keys' counts' : List ℕ} → Adds r keys' counts' (add_label (kind_of kind) (rule_of m) K n keys counts l)
+    → (l : List ℕ) {r : Result Addition AddError} {keys' counts' : List ℕ}
+    → Adds r keys' counts' (add_label (kind_of kind) (rule_of m) K n keys counts l)
     → (x : ℕ) (vs : List ℕ) → add_answer r ≡ refuses x vs → Called kind m K ls n keys' counts'
 called_refused {kind} {m} {K} {n = n} {keys = keys} {counts = counts} c l a x vs e =
     let s = refused_same (kind_of kind) (rule_of m) K n keys counts l x vs (sym a.answer ∙ e) in
@@ -75,12 +79,12 @@ called_copied {n = n} {keys = keys} c keys' counts' p q =
 
 -- A call of `contract`, known by its contract.
 module _ (kind : EdgeKind) (K cutoff n : ℕ) (keys counts labels starts lengths marks : List ℕ)
-    {r : ContractAnswer} {labels' starts' lengths' marks' : List ℕ}
+    {r : Result Unitigs ContractError} {labels' starts' lengths' marks' : List ℕ}
     (c : Contracts r labels' starts' lengths' marks' (contract (kind_of kind) K cutoff n keys counts labels starts lengths marks)) where
   abbrev result : Contracted
   result = contract (kind_of kind) K cutoff n keys counts labels starts lengths marks
 
-  module _ {number bases : ℕ} (e : r ≡ answers.Contracted number bases) where
+  module _ {number bases : ℕ} (e : r ≡ Ok (record { labels = number; bases = bases })) where
     abbrev totals : Totals
     totals = record { labels = number; bases = bases }
 
@@ -126,16 +130,17 @@ module _ (kind : EdgeKind) (K cutoff n : ℕ) (keys counts labels starts lengths
         ∙ grown_isolated (lawful m K) (called_grown g) cutoff h v l i)
 
   -- Over such a table no vertex is ever missing.
-  pub call_finds : {m : Mode} {ls : List (List ℕ)} → Called kind m K ls n keys counts → r ≡ answers.MissingVertex → ⊥
+  pub call_finds : {m : Mode} {ls : List (List ℕ)} → Called kind m K ls n keys counts
+      → r ≡ Err contract_errors.MissingVertex → ⊥
   call_finds g e = grown_contract (called_grown g) cutoff labels starts lengths marks [] (sym c.answer ∙ ap contract_answer e)
 
   -- Room for n times K bases and n entries is always enough: it is never refused with 9.
-  pub call_fits : K * n ≤ length labels → n ≤ length starts → n ≤ length lengths → r ≡ answers.NoRoom → ⊥
+  pub call_fits : K * n ≤ length labels → n ≤ length starts → n ≤ length lengths → r ≡ Err contract_errors.NoRoom → ⊥
   call_fits b s l e =
       contract_fits (kind_of kind) K cutoff n keys counts labels starts lengths marks b s l [] (sym c.answer ∙ ap contract_answer e)
 
   -- A second call over what the first left answers the same and leaves the same.
-  pub call_again : {s : ContractAnswer} {labels'' starts'' lengths'' marks'' : List ℕ}
+  pub call_again : {s : Result Unitigs ContractError} {labels'' starts'' lengths'' marks'' : List ℕ}
       → Contracts s labels'' starts'' lengths'' marks'' (contract (kind_of kind) K cutoff n keys counts labels' starts' lengths' marks')
       → Contracts s labels'' starts'' lengths'' marks'' result
   call_again d =

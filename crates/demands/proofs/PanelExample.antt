@@ -4,6 +4,7 @@ use mathlib.Core.Path.{◌≡◌, refl}
 use mathlib.Core.List.{List, [], ◌∷◌, ◌++◌}
 use Prim.Native.Nat.{ℕ}
 use lib.ListN.{replicate}
+use Rattle.std.proofs.Common.{Ok}
 use Rattle.dna.specs.Text.{bytes, open_text}
 use Rattle.dna.specs.Letters.{open_letters}
 use Rattle.dna.specs.Order.{open_order}
@@ -18,12 +19,10 @@ use Rattle.graph.specs.Several.{Several, untried, add_each, open_several}
 use Rattle.graph.specs.Walks.{open_walks}
 use Rattle.graph.specs.Labels.{open_labels}
 use Rattle.graph.specs.Contraction.{Contracted, contract, open_contraction}
-use Rattle.contraction.specs.declared.ContractAnswer.TheVariants as answers
 use Rattle.contraction.specs.Says.{Contracts}
 use Rattle.panel.specs.Probes.{none, open_probes}
 use Rattle.panel.specs.Panel.{panel, open_panel}
 use Rattle.panel.specs.Says.{Panels}
-use Rattle.panel.specs.declared.PanelAnswer.TheVariants.{Answered}
 use Rattle.demands.specs.Probes.{probe_at, Unshared}
 use Rattle.demands.proofs.Panels.{panel_unshared}
 
@@ -55,7 +54,7 @@ starts = 58 ∷ 75 ∷ 0 ∷ 29 ∷ []
 abbrev lengths : List ℕ
 lengths = 17 ∷ 17 ∷ 29 ∷ 29 ∷ []
 
-pub strains_contracted : Contracts (answers.Contracted 4 92) labels starts lengths list.marks list
+pub strains_contracted : Contracts (Ok (record { labels = 4; bases = 92 })) labels starts lengths list.marks list
 unfolding reads table open_text open_letters open_order open_kmer open_counted open_table open_sightings open_adding open_several open_walks open_labels open_contraction
 strains_contracted = record {
   answer = refl;
@@ -76,7 +75,7 @@ list_is = refl
 abbrev found : List ℕ
 found = none ∷ none ∷ 6 ∷ 5 ∷ []
 
-pub panel_is : Panels (Answered 4) found (panel 15 2 20 9 11 labels starts lengths 4 (zeros 4))
+pub panel_is : Panels (Ok 4) found (panel 15 2 20 9 11 labels starts lengths 4 (zeros 4))
 unfolding open_text open_entries open_probes open_panel
 panel_is = record { answer = refl; slice = refl }
 

@@ -7,6 +7,7 @@ use mathlib.Core.List.{List, []}
 use Prim.Native.Nat.{ℕ, ◌≤◌, ◌<◌}
 use native.Mathlib.Omega.{arith}
 use lib.ListN.{length, get_or}
+use Rattle.std.proofs.Common.{Option, None, Result, Ok}
 use Rattle.lemmas.proofs.Numbers.{lt_or_ge}
 use Rattle.state.specs.declared.EdgeKind.{EdgeKind}
 use Rattle.state.specs.Says.{kind_of}
@@ -14,8 +15,8 @@ use Rattle.label_index.specs.Entries.{label_at, listed, within}
 use Rattle.label_index.proofs.Entries.{length_listed, listed_at, within_long}
 use Rattle.graph.specs.Table.{table_of, keys_of}
 use Rattle.graph.specs.Contraction.{Totals, ends_in, contract}
-use Rattle.contraction.specs.declared.ContractAnswer.{ContractAnswer}
-use Rattle.contraction.specs.declared.ContractAnswer.TheVariants as answers
+use Rattle.contraction.specs.declared.Unitigs.{Unitigs}
+use Rattle.contraction.specs.declared.ContractError.{ContractError}
 use Rattle.contraction.specs.Says.{contract_answer, Contracts}
 use Rattle.laws.specs.Windows.{occurs, occurrences}
 use Rattle.laws.proofs.Listed.{contract_within}
@@ -24,14 +25,13 @@ use Rattle.rules.specs.Listing.{Lists as Holds}
 use Rattle.rules.specs.Judging.{judge}
 use Rattle.rules.proofs.Listing.{one_list}
 use Rattle.rules.proofs.Standing.{once_2}
-use Rattle.judging.specs.declared.JudgeAnswer.{JudgeAnswer}
-use Rattle.judging.specs.declared.JudgeAnswer.TheVariants as judged
+use Rattle.judging.specs.declared.Broken.{Broken}
+use Rattle.judging.specs.declared.JudgeError.{JudgeError}
 use Rattle.judging.specs.Answers.{Judges}
 use Rattle.panel.specs.Probes.{between}
 use Rattle.panel.specs.Panel.{in_profile, panel}
 use Rattle.panel.specs.Says.{Panels}
-use Rattle.panel.specs.declared.PanelAnswer.{PanelAnswer}
-use Rattle.panel.specs.declared.PanelAnswer.TheVariants.{Answered}
+use Rattle.panel.specs.declared.PanelError.{PanelError}
 use Rattle.panel.proofs.Says.{panels_one, panels_all, profile_k}
 use Rattle.panel.proofs.Outcomes.{answered_profile, answered_inside}
 use Rattle.demands.specs.Probes.{probe_at, Unshared}
@@ -73,8 +73,9 @@ module _ (K L : ℕ) (one : 1 ≤ K) (labels starts lengths : List ℕ) (count :
 -- ---- a call of `panel` that was answered, known by its contract
 
 module _ (K cutoff L least most : ℕ) (labels starts lengths : List ℕ) (count : ℕ) (out : List ℕ)
-    {r : PanelAnswer} {out' : List ℕ} (p : Panels r out' (panel K cutoff L least most labels starts lengths count out))
-    {m : ℕ} (e : r ≡ Answered m) where
+    {r : Result ℕ PanelError} {out' : List ℕ}
+    (p : Panels r out' (panel K cutoff L least most labels starts lengths count out))
+    {m : ℕ} (e : r ≡ Ok m) where
   pub answers_unshared : ((x : ℕ) → occurrences K x (listed count labels starts lengths) ≤ 1)
       → Unshared K L labels starts lengths count out'
   answers_unshared never_twice =
@@ -86,39 +87,41 @@ module _ (K cutoff L least most : ℕ) (labels starts lengths : List ℕ) (count
 -- K; `said` is the cutoff that the panel is told, which need not be the list's
 
 module _ (kind : EdgeKind) (K cutoff n : ℕ) (keys counts labels starts lengths marks : List ℕ)
-    {r : ContractAnswer} {labels' starts' lengths' marks' : List ℕ}
+    {r : Result Unitigs ContractError} {labels' starts' lengths' marks' : List ℕ}
     (c : Contracts r labels' starts' lengths' marks'
     (contract (kind_of kind) K cutoff n keys counts labels starts lengths marks))
-    {number bases : ℕ} (e : r ≡ answers.Contracted number bases)
-    (said L least most : ℕ) (out : List ℕ) {s : PanelAnswer} {out' : List ℕ}
+    {number bases : ℕ} (e : r ≡ Ok (record { labels = number; bases = bases }))
+    (said L least most : ℕ) (out : List ℕ) {s : Result ℕ PanelError} {out' : List ℕ}
     (p : Panels s out' (panel K said L least most labels' starts' lengths' number out)) where
   -- It is answered in the profile where the bounds are in order and the answers have room: the list itself is never
   -- refused.
   pub panel_answers : in_profile K said L ≡ true → between least most L ≡ true → number ≤ length out
-      → s ≡ Answered number
+      → s ≡ Ok number
   panel_answers profile ordered room =
       let t : Totals = record { labels = number; bases = bases } in
       let given = sym c.answer ∙ ap contract_answer e in
       let w : within labels' number starts' lengths' ≡ true =
       rw (c.labels_after, c.starts_after, c.lengths_after)
       (contract_within (kind_of kind) K cutoff n keys counts labels starts lengths marks t given) in
-      (panels_one s (Answered number) p
+      (panels_one s (Ok number) p
       (panels_all K said L least most labels' starts' lengths' number out profile ordered w room _ refl)).0
 
   -- Where it is answered, the answers share no k-mer: by demand 3, whose clause `never_twice` holds over every fit
   -- table.
-  pub panel_unshared : {m : ℕ} → s ≡ Answered m → Unshared K L labels' starts' lengths' number out'
+  pub panel_unshared : {m : ℕ} → s ≡ Ok m → Unshared K L labels' starts' lengths' number out'
   panel_unshared f =
       answers_unshared K said L least most labels' starts' lengths' number out p f
       (call_always kind K cutoff n keys counts labels starts lengths marks c e).never_twice
 
 -- ---- over a list that `judge` has passed, and any index that lists its labels
 
-module _ (kind : EdgeKind) (K cutoff n : ℕ) (keys counts text marks : List ℕ) {v : JudgeAnswer} {marks' : List ℕ}
-    (j : Judges v marks' (judge (kind_of kind) K cutoff n keys counts text marks)) (yes : v ≡ judged.Passes)
+module _ (kind : EdgeKind) (K cutoff n : ℕ) (keys counts text marks : List ℕ) {v : Result (Option Broken) JudgeError}
+    {marks' : List ℕ}
+    (j : Judges v marks' (judge (kind_of kind) K cutoff n keys counts text marks)) (yes : v ≡ Ok None)
     (said L least most : ℕ) (labels starts lengths : List ℕ) (count : ℕ) (out : List ℕ)
-    {s : PanelAnswer} {out' : List ℕ} (p : Panels s out' (panel K said L least most labels starts lengths count out)) where
-  pub judged_unshared : Holds K text (listed count labels starts lengths) → {m : ℕ} → s ≡ Answered m
+    {s : Result ℕ PanelError} {out' : List ℕ}
+    (p : Panels s out' (panel K said L least most labels starts lengths count out)) where
+  pub judged_unshared : Holds K text (listed count labels starts lengths) → {m : ℕ} → s ≡ Ok m
       → Unshared K L labels starts lengths count out'
   judged_unshared h f =
       let y = call_yes kind K cutoff n keys counts text marks j yes in

@@ -5,6 +5,7 @@ use mathlib.Core.Bool.{true}
 use mathlib.Core.List.{List, []}
 use Prim.Native.Nat.{ℕ, suc, ◌%◌, ◌≤◌}
 use lib.ListN.{length, replicate}
+use Rattle.std.proofs.Common.{Result, Ok}
 use Rattle.dna.specs.Text.{bytes, open_text}
 use Rattle.dna.specs.Answer.{gives}
 use Rattle.kmer.specs.Kmer.{ok_k}
@@ -25,8 +26,7 @@ use Rattle.rules.proofs.Listing.{one_list, records_listed}
 use Rattle.rules.proofs.Judging.{contract_asked, own_fasta}
 use Rattle.panel.specs.Panel.{panel}
 use Rattle.panel.specs.Says.{Panels}
-use Rattle.panel.specs.declared.PanelAnswer.{PanelAnswer}
-use Rattle.panel.specs.declared.PanelAnswer.TheVariants.{Answered}
+use Rattle.panel.specs.declared.PanelError.{PanelError}
 use Rattle.panel.proofs.Says.{profile_odd}
 use Rattle.panel.proofs.Outcomes.{answered_profile}
 use Rattle.label_file.specs.LabelFile.{holds, file_of}
@@ -86,8 +86,9 @@ pub printed_unshared : (file : List ℕ) {K cutoff : ℕ} {labels : List (List �
     → length (records_of (list K cutoff labels t.labels)) ≤ 8192
     → (said L least most : ℕ) (bases starts lengths : List ℕ) (count : ℕ) (out : List ℕ)
     → Lists K (unitigs file) (listed count bases starts lengths)
-    → {r : PanelAnswer} {out' : List ℕ} → Panels r out' (panel K said L least most bases starts lengths count out)
-    → {m : ℕ} → r ≡ Answered m → Unshared K L bases starts lengths count out'
+    → {r : Result ℕ PanelError} {out' : List ℕ}
+    → Panels r out' (panel K said L least most bases starts lengths count out)
+    → {m : ℕ} → r ≡ Ok m → Unshared K L bases starts lengths count out'
 printed_unshared file {K} {cutoff} {labels} sound supported added {t} given fits said L least most bases starts lengths
     count out held p answered =
     let odd = profile_odd K said L (answered_profile K said L least most bases starts lengths count out p answered) in

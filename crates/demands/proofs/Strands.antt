@@ -4,6 +4,7 @@ use mathlib.Core.Path.{◌≡◌, refl, sym, ap, ◌∙◌}
 use mathlib.Core.Bool.{true}
 use mathlib.Core.List.{List}
 use Prim.Native.Nat.{ℕ, ◌%◌}
+use Rattle.std.proofs.Common.{Result, Ok, Err}
 use Rattle.dna.specs.Answer.{gives}
 use Rattle.dna.proofs.Answers.{ungiven}
 use Rattle.state.specs.declared.EdgeKind.{EdgeKind}
@@ -14,14 +15,15 @@ use Rattle.graph.specs.Sightings.{reversed}
 use Rattle.graph.specs.Adding.{Edges, Added, stored_after, add_label}
 use Rattle.graph.specs.Several.{Several, add_labels}
 use Rattle.graph.specs.Contraction.{contract}
-use Rattle.adding.specs.declared.AddAnswer.{AddAnswer}
-use Rattle.adding.specs.declared.AddAnswer.TheVariants as one
-use Rattle.adding.specs.declared.LabelsAnswer.{LabelsAnswer}
-use Rattle.adding.specs.declared.LabelsAnswer.TheVariants as many
+use Rattle.adding.specs.declared.Addition.{Addition}
+use Rattle.adding.specs.declared.AddError.{AddError}
+use Rattle.adding.specs.declared.Additions.{Additions}
+use Rattle.adding.specs.declared.OutOfText.{OutOfText}
 use Rattle.adding.specs.declared.Mode.TheVariants as mode
 use Rattle.adding.specs.Says.{add_answer, labels_say, Adds, AddsLabels}
 use Rattle.adding.proofs.Says.{adds_one, adds_labels_one}
-use Rattle.contraction.specs.declared.ContractAnswer.{ContractAnswer}
+use Rattle.contraction.specs.declared.Unitigs.{Unitigs}
+use Rattle.contraction.specs.declared.ContractError.{ContractError}
 use Rattle.contraction.specs.Says.{Contracts}
 use Rattle.laws.specs.Strands.{EitherStrand, Turned, Alike, Alike.same, Alike.no_base, AllAlike, AllAlike.all_same, AllAlike.last_no_base}
 use Rattle.laws.proofs.Keys.{grown_fit_for}
@@ -44,16 +46,18 @@ all_alike_given all_same e h = refl
 all_alike_given (last_no_base {beside' = beside'}) e h = ungiven e 3 beside' (sym h)
 
 -- What a call of `add_labels` tells of the labels added and the number stored.
-told : (n : ℕ) (r : LabelsAnswer) (s : Several) → labels_say n r s → (added_by r ≡ s.labels) × (stored_by n r ≡ s.stored)
-told n (many.Tried m stored last) s h = (h.0, h.1)
-told n many.OutOfText s h = (h.0, h.1)
+told : (n : ℕ) (r : Result Additions OutOfText) (s : Several) → labels_say n r s → (added_by r ≡ s.labels)
+    × (stored_by n r ≡ s.stored)
+told n (Ok t) s h = (h.0, h.1)
+told n (Err e) s h = (h.0, h.1)
 
 module _ (kind : EdgeKind) (K : ℕ) (odd : K % 2 ≡ 1) where
   -- ---- two calls over the same table, known by their contracts
 
   module _ (n : ℕ) (keys counts : List ℕ) where
     -- `add_label`, of labels that read as each other on one strand or the other.
-    module _ {l m : List ℕ} (t : EitherStrand l m) {r s : AddAnswer} {keys' counts' keys'' counts'' : List ℕ}
+    module _ {l m : List ℕ} (t : EitherStrand l m) {r s : Result Addition AddError}
+        {keys' counts' keys'' counts'' : List ℕ}
         (a : Adds r keys' counts' (add_label (kind_of kind) reversed K n keys counts l))
         (b : Adds s keys'' counts'' (add_label (kind_of kind) reversed K n keys counts m)) where
       -- Both slices and the number stored, whatever is answered;
@@ -66,7 +70,7 @@ module _ (kind : EdgeKind) (K : ℕ) (odd : K % 2 ≡ 1) where
           )
 
       -- and where the one is added, so is the other, with the same answer.
-      pub call_answers : {edges stored : ℕ} → r ≡ one.Added edges stored → s ≡ r
+      pub call_answers : {edges stored : ℕ} → r ≡ Ok (record { edges = edges; stored = stored }) → s ≡ r
       call_answers {edges} {stored} q =
           let e : Edges = record { edges = edges; stored = stored } in
           let h = alike_given (either_alike (kind_of kind) K odd n keys counts t) e (sym a.answer ∙ ap add_answer q) in
@@ -76,7 +80,7 @@ module _ (kind : EdgeKind) (K : ℕ) (odd : K % 2 ≡ 1) where
     module _ (text starts lengths text₂ starts₂ lengths₂ : List ℕ) (count count₂ : ℕ)
         (inside : within text count starts lengths ≡ true) (inside₂ : within text₂ count₂ starts₂ lengths₂ ≡ true)
         (ts : Turned (listed count text starts lengths) (listed count₂ text₂ starts₂ lengths₂))
-        {r s : LabelsAnswer} {keys' counts' keys'' counts'' : List ℕ}
+        {r s : Result Additions OutOfText} {keys' counts' keys'' counts'' : List ℕ}
         (a : AddsLabels n r keys' counts' (add_labels (kind_of kind) reversed K n keys counts text starts lengths count))
         (b : AddsLabels n s keys'' counts'' (add_labels (kind_of kind) reversed K n keys counts text₂ starts₂ lengths₂ count₂)) where
       abbrev first : Several
@@ -102,10 +106,14 @@ module _ (kind : EdgeKind) (K : ℕ) (odd : K % 2 ≡ 1) where
           )
 
       -- and where none is refused, the answer.
-      pub calls_answers : {labels stored edges now : ℕ} → r ≡ many.Tried labels stored (one.Added edges now) → s ≡ r
+      pub calls_answers : {labels stored edges now : ℕ}
+          → r ≡ Ok (record { labels = labels; stored = stored; last = Ok (record { edges = edges; stored = now }) })
+          → s ≡ r
       calls_answers {labels} {stored} {edges} {now} q =
           let e : Edges = record { edges = edges; stored = now } in
-          let w : labels_say n (many.Tried labels stored (one.Added edges now)) first = rw q at a.says in
+          let last : Result Addition AddError = Ok (record { edges = edges; stored = now }) in
+          let all : Additions = record { labels = labels; stored = stored; last = last } in
+          let w : labels_say n (Ok all) first = rw q at a.says in
           let h = all_alike_given labels_alike e (sym w.2) in
           (adds_labels_one n s r (rw h at b) a).0
 
@@ -126,7 +134,8 @@ module _ (kind : EdgeKind) (K : ℕ) (odd : K % 2 ≡ 1) where
         (rw q at (grown_fit_for (called_grown d))) (rw q at runs_strands.1))
 
     -- A call of `contract` over the one is a call over the other: they have one list.
-    pub lists_strands : (cutoff : ℕ) (labels starts lengths marks : List ℕ) {r : ContractAnswer} {labels' starts' lengths' marks' : List ℕ}
+    pub lists_strands : (cutoff : ℕ) (labels starts lengths marks : List ℕ) {r : Result Unitigs ContractError}
+        {labels' starts' lengths' marks' : List ℕ}
         → Contracts r labels' starts' lengths' marks' (contract (kind_of kind) K cutoff n' keys' counts' labels starts lengths marks)
         → Contracts r labels' starts' lengths' marks' (contract (kind_of kind) K cutoff n keys counts labels starts lengths marks)
     lists_strands cutoff labels starts lengths marks a = rw (contract_strands cutoff labels starts lengths marks) at a

@@ -6,6 +6,7 @@ use Prim.Native.Nat.{ℕ, ◌*◌, ◌≤◌}
 use native.Mathlib.Omega.{arith}
 use lib.ListN.{length, get_or, take}
 use borrow.Author.Tests.{ne_eqb}
+use Rattle.std.proofs.Common.{Option, Result, Ok, Err}
 use Rattle.dna.specs.Answer.{Filled}
 use Rattle.state.specs.declared.EdgeKind.TheVariants as kinds
 use Rattle.state.specs.Says.{kind_of}
@@ -14,23 +15,26 @@ use Rattle.graph.specs.Table.{table_of, keys_of}
 use Rattle.graph.specs.Adding.{add_label}
 use Rattle.graph.specs.Several.{add_labels}
 use Rattle.graph.specs.Contraction.{Contracted, ends_in, contract}
-use Rattle.adding.specs.declared.AddAnswer.{AddAnswer}
-use Rattle.adding.specs.declared.AddAnswer.TheVariants as one
-use Rattle.adding.specs.declared.LabelsAnswer.{LabelsAnswer}
-use Rattle.adding.specs.declared.LabelsAnswer.TheVariants as many
+use Rattle.adding.specs.declared.Addition.{Addition}
+use Rattle.adding.specs.declared.AddError.{AddError}
+use Rattle.adding.specs.declared.AddError.TheVariants as add_errors
+use Rattle.adding.specs.declared.Additions.{Additions}
+use Rattle.adding.specs.declared.OutOfText.{OutOfText}
 use Rattle.adding.specs.declared.Mode.{Mode}
 use Rattle.adding.specs.declared.Mode.TheVariants as modes
 use Rattle.adding.specs.Says.{add_answer, rule_of, Adds, AddsLabels}
-use Rattle.contraction.specs.declared.ContractAnswer.{ContractAnswer}
-use Rattle.contraction.specs.declared.ContractAnswer.TheVariants as all
+use Rattle.contraction.specs.declared.Unitigs.{Unitigs}
+use Rattle.contraction.specs.declared.ContractError.{ContractError}
+use Rattle.contraction.specs.declared.ContractError.TheVariants as contract_errors
 use Rattle.contraction.specs.Says.{contract_answer, Contracts}
 use Rattle.rules.specs.Judging.{judge}
-use Rattle.judging.specs.declared.JudgeAnswer.{JudgeAnswer}
+use Rattle.judging.specs.declared.Broken.{Broken}
+use Rattle.judging.specs.declared.JudgeError.{JudgeError}
 use Rattle.judging.specs.Answers.{judge_answer, Judges}
 use Rattle.panel.specs.Panel.{panel}
 use Rattle.panel.specs.Says.{panel_answer, Panels}
-use Rattle.panel.specs.declared.PanelAnswer.{PanelAnswer}
-use Rattle.panel.specs.declared.PanelAnswer.TheVariants as panels
+use Rattle.panel.specs.declared.PanelError.{PanelError}
+use Rattle.panel.specs.declared.PanelError.TheVariants as panel_errors
 use Rattle.panel.proofs.Outcomes.{answered_all}
 use Rattle.capi.specs.Says.{
   edge_kind_of,
@@ -76,7 +80,8 @@ c_presence kind h = rw (ne_eqb kind 0 h)
 module _ (kind mode K n : ℕ) (keys counts l : List ℕ) {r : ℕ} {keys' counts' figures₀ figures' : List ℕ}
     (c : AddsLabel r keys' counts' figures₀ figures' (add_label (kind_of (edge_kind_of kind)) (rule_of (mode_of mode)) K n keys counts l)) where
   -- The call of `add_label` that it is.
-  pub c_adds : (a : AddAnswer) × Adds a keys' counts' (add_label (kind_of (edge_kind_of kind)) (rule_of (mode_of mode)) K n keys counts l)
+  pub c_adds : (a : Result Addition AddError)
+      × Adds a keys' counts' (add_label (kind_of (edge_kind_of kind)) (rule_of (mode_of mode)) K n keys counts l)
       × (r ≡ number_of (add_answer a)) × (figures' ≡ noted (figures of_edges (add_answer a)) figures₀)
   c_adds =
       let t = add_told (kind_of (edge_kind_of kind)) (rule_of (mode_of mode)) K n keys counts l in (
@@ -91,34 +96,40 @@ module _ (kind mode K n : ℕ) (keys counts l : List ℕ) {r : ℕ} {keys' count
       → Called (edge_kind_of kind) (mode_of mode) K (l ∷ ls) (get_or figures' 1 0) keys' counts'
   c_called {ls} g z room = go c_adds.0 c_adds.1 c_adds.2 c_adds.3
     where
-      go : (a : AddAnswer) → Adds a keys' counts' (add_label (kind_of (edge_kind_of kind)) (rule_of (mode_of mode)) K n keys counts l) → r ≡ number_of (add_answer a)
+      go : (a : Result Addition AddError)
+          → Adds a keys' counts' (add_label (kind_of (edge_kind_of kind)) (rule_of (mode_of mode)) K n keys counts l)
+          → r ≡ number_of (add_answer a)
           → figures' ≡ noted (figures of_edges (add_answer a)) figures₀ → Called (edge_kind_of kind) (mode_of mode) K (l ∷ ls) (get_or figures' 1 0) keys' counts'
-      go (one.Added edges stored) a q f = rw (f, (two_noted edges stored figures₀ room).1) (adds g l a refl)
-      go (one.UnsupportedK k) a q f = absurd (omega arith)
-      go (one.InvalidBase place byte) a q f = absurd (omega arith)
-      go (one.TooLong m) a q f = absurd (omega arith)
-      go one.Unfit a q f = absurd (omega arith)
-      go one.Full a q f = absurd (omega arith)
+      go (Ok t) a q f = rw (f, (two_noted t.edges t.stored figures₀ room).1) (adds g l a refl)
+      go (Err (add_errors.UnsupportedK k)) a q f = absurd (omega arith)
+      go (Err (add_errors.InvalidBase place byte)) a q f = absurd (omega arith)
+      go (Err (add_errors.TooLong m)) a q f = absurd (omega arith)
+      go (Err add_errors.Unfit) a q f = absurd (omega arith)
+      go (Err add_errors.Full) a q f = absurd (omega arith)
 
   -- where another number is, the table is as it was.
   pub c_refused : {ls : List (List ℕ)} → Called (edge_kind_of kind) (mode_of mode) K ls n keys counts → (r ≡ 0 → ⊥) → Called (edge_kind_of kind) (mode_of mode) K ls n keys' counts'
   c_refused {ls} g z = go c_adds.0 c_adds.1 c_adds.2
     where
-      go : (a : AddAnswer) → Adds a keys' counts' (add_label (kind_of (edge_kind_of kind)) (rule_of (mode_of mode)) K n keys counts l) → r ≡ number_of (add_answer a)
+      go : (a : Result Addition AddError)
+          → Adds a keys' counts' (add_label (kind_of (edge_kind_of kind)) (rule_of (mode_of mode)) K n keys counts l)
+          → r ≡ number_of (add_answer a)
           → Called (edge_kind_of kind) (mode_of mode) K ls n keys' counts'
-      go (one.Added edges stored) a q = absurd (z q)
-      go (one.UnsupportedK k) a q = called_refused g l a 1 (k ∷ []) refl
-      go (one.InvalidBase place byte) a q = called_refused g l a 3 (place ∷ byte ∷ []) refl
-      go (one.TooLong m) a q = called_refused g l a 4 (m ∷ []) refl
-      go one.Unfit a q = called_refused g l a 5 [] refl
-      go one.Full a q = called_refused g l a 6 [] refl
+      go (Ok t) a q = absurd (z q)
+      go (Err (add_errors.UnsupportedK k)) a q = called_refused g l a 1 (k ∷ []) refl
+      go (Err (add_errors.InvalidBase place byte)) a q = called_refused g l a 3 (place ∷ byte ∷ []) refl
+      go (Err (add_errors.TooLong m)) a q = called_refused g l a 4 (m ∷ []) refl
+      go (Err add_errors.Unfit) a q = called_refused g l a 5 [] refl
+      go (Err add_errors.Full) a q = called_refused g l a 6 [] refl
 
 -- ---- `lash_add_labels`
 
 module _ (kind mode K n : ℕ) (keys counts text starts lengths : List ℕ) (count : ℕ) {r : ℕ} {keys' counts' totals₀ totals' figures₀ figures' : List ℕ}
     (c : AddsSeveral r keys' counts' totals₀ totals' figures₀ figures' (add_labels (kind_of (edge_kind_of kind)) (rule_of (mode_of mode)) K n keys counts text starts lengths count)) where
   -- The call of `add_labels` that it is.
-  pub c_adds_labels : (a : LabelsAnswer) × AddsLabels n a keys' counts' (add_labels (kind_of (edge_kind_of kind)) (rule_of (mode_of mode)) K n keys counts text starts lengths count)
+  pub c_adds_labels : (a : Result Additions OutOfText)
+      × AddsLabels n a keys' counts'
+      (add_labels (kind_of (edge_kind_of kind)) (rule_of (mode_of mode)) K n keys counts text starts lengths count)
   c_adds_labels =
       let t = labels_told (kind_of (edge_kind_of kind)) (rule_of (mode_of mode)) K n keys counts text starts lengths count in
       (t.0, record { says = t.1; keys_after = c.keys_after; counts_after = c.counts_after })
@@ -131,12 +142,14 @@ module _ (kind mode K n : ℕ) (keys counts text starts lengths : List ℕ) (cou
       told : {m stored m' stored' : ℕ} → m ≡ m' → stored ≡ stored' → noted (m' ∷ stored' ∷ []) totals₀ ≡ noted (m ∷ stored ∷ []) totals₀
       told p q = ap₂ (λ (x y : ℕ). noted (x ∷ y ∷ []) totals₀) (sym p) (sym q)
 
-      go : (a : LabelsAnswer) → AddsLabels n a keys' counts' (add_labels (kind_of (edge_kind_of kind)) (rule_of (mode_of mode)) K n keys counts text starts lengths count)
+      go : (a : Result Additions OutOfText)
+          → AddsLabels n a keys' counts'
+          (add_labels (kind_of (edge_kind_of kind)) (rule_of (mode_of mode)) K n keys counts text starts lengths count)
           → Called (edge_kind_of kind) (mode_of mode) K (onto (take (get_or totals' 0 0) (listed count text starts lengths)) ls) (get_or totals' 1 0) keys' counts'
-      go (many.Tried m stored last) a =
-          let t = two_noted m stored totals₀ room in
+      go (Ok all) a =
+          let t = two_noted all.labels all.stored totals₀ room in
           rw (c.totals_after ∙ told a.says.0 a.says.1, t.0, t.1) (adds_many g text starts lengths count a)
-      go many.OutOfText a =
+      go (Err e) a =
           let t = two_noted 0 n totals₀ room in
           rw (c.totals_after ∙ told a.says.0 a.says.1, t.0, t.1) (adds_many g text starts lengths count a)
 
@@ -145,7 +158,9 @@ module _ (kind mode K n : ℕ) (keys counts text starts lengths : List ℕ) (cou
 module _ (kind K cutoff n : ℕ) (keys counts labels starts lengths marks : List ℕ) {r : ℕ} {labels' starts' lengths' marks' figures₀ figures' : List ℕ}
     (c : ContractsTable r labels' starts' lengths' marks' figures₀ figures' (contract (kind_of (edge_kind_of kind)) K cutoff n keys counts labels starts lengths marks)) where
   -- The call of `contract` that it is; `call_always` and all that follows it in Meets.antt speak of that.
-  pub c_contracts : (a : ContractAnswer) × Contracts a labels' starts' lengths' marks' (contract (kind_of (edge_kind_of kind)) K cutoff n keys counts labels starts lengths marks)
+  pub c_contracts : (a : Result Unitigs ContractError)
+      × Contracts a labels' starts' lengths' marks'
+      (contract (kind_of (edge_kind_of kind)) K cutoff n keys counts labels starts lengths marks)
       × (r ≡ number_of (contract_answer a)) × (figures' ≡ noted (figures of_totals (contract_answer a)) figures₀)
   c_contracts =
       let t = contract_told (kind_of (edge_kind_of kind)) K cutoff n keys counts labels starts lengths marks in (
@@ -166,19 +181,23 @@ module _ (kind K cutoff n : ℕ) (keys counts labels starts lengths marks : List
 
   -- Where 0 is returned, it is a call that was not refused, and the first figure is the number of labels.
   pub c_contracted : r ≡ 0 → 2 ≤ length figures₀
-      → (bases : ℕ) × Contracts (all.Contracted (get_or figures' 0 0) bases) labels' starts' lengths' marks' result
+      → (bases : ℕ)
+      × Contracts (Ok (record { labels = get_or figures' 0 0; bases = bases })) labels' starts' lengths' marks' result
   c_contracted z room = go c_contracts.0 c_contracts.1 c_contracts.2 c_contracts.3
     where
-      go : (a : ContractAnswer) → Contracts a labels' starts' lengths' marks' result → r ≡ number_of (contract_answer a)
+      go : (a : Result Unitigs ContractError) → Contracts a labels' starts' lengths' marks' result
+          → r ≡ number_of (contract_answer a)
           → figures' ≡ noted (figures of_totals (contract_answer a)) figures₀
-          → (bases : ℕ) × Contracts (all.Contracted (get_or figures' 0 0) bases) labels' starts' lengths' marks' result
-      go (all.Contracted number bases) a q f = rw (f, (two_noted number bases figures₀ room).0) (bases, a)
-      go (all.UnsupportedK k) a q f = absurd (omega arith)
-      go all.Unfit a q f = absurd (omega arith)
-      go all.WrongCutoff a q f = absurd (omega arith)
-      go all.FewMarks a q f = absurd (omega arith)
-      go all.MissingVertex a q f = absurd (omega arith)
-      go all.NoRoom a q f = absurd (omega arith)
+          → (bases : ℕ)
+          × Contracts (Ok (record { labels = get_or figures' 0 0; bases = bases }))
+          labels' starts' lengths' marks' result
+      go (Ok t) a q f = rw (f, (two_noted t.labels t.bases figures₀ room).0) (t.bases, a)
+      go (Err (contract_errors.UnsupportedK k)) a q f = absurd (omega arith)
+      go (Err contract_errors.Unfit) a q f = absurd (omega arith)
+      go (Err contract_errors.WrongCutoff) a q f = absurd (omega arith)
+      go (Err contract_errors.FewMarks) a q f = absurd (omega arith)
+      go (Err contract_errors.MissingVertex) a q f = absurd (omega arith)
+      go (Err contract_errors.NoRoom) a q f = absurd (omega arith)
 
   -- Over a table that calls have made, the labels that the index then lists meet demand 3.
   pub c_meets : {m : Mode} {ls : List (List ℕ)} → Called (edge_kind_of kind) m K ls n keys counts → r ≡ 0 → 2 ≤ length figures₀
@@ -190,23 +209,25 @@ module _ (kind K cutoff n : ℕ) (keys counts labels starts lengths marks : List
   pub c_fits : K * n ≤ length labels → n ≤ length starts → n ≤ length lengths → r ≡ 9 → ⊥
   c_fits b s l e = go c_contracts.0 c_contracts.1 c_contracts.2
     where
-      go : (a : ContractAnswer)
+      go : (a : Result Unitigs ContractError)
           → Contracts a labels' starts' lengths' marks' (contract (kind_of (edge_kind_of kind)) K cutoff n keys counts labels starts lengths marks)
           → r ≡ number_of (contract_answer a) → ⊥
-      go (all.Contracted number bases) a q = omega arith
-      go (all.UnsupportedK k) a q = omega arith
-      go all.Unfit a q = omega arith
-      go all.WrongCutoff a q = omega arith
-      go all.FewMarks a q = omega arith
-      go all.MissingVertex a q = omega arith
-      go all.NoRoom a q = call_fits (edge_kind_of kind) K cutoff n keys counts labels starts lengths marks a b s l refl
+      go (Ok t) a q = omega arith
+      go (Err (contract_errors.UnsupportedK k)) a q = omega arith
+      go (Err contract_errors.Unfit) a q = omega arith
+      go (Err contract_errors.WrongCutoff) a q = omega arith
+      go (Err contract_errors.FewMarks) a q = omega arith
+      go (Err contract_errors.MissingVertex) a q = omega arith
+      go (Err contract_errors.NoRoom) a q =
+          call_fits (edge_kind_of kind) K cutoff n keys counts labels starts lengths marks a b s l refl
 
 -- ---- `lash_judge`
 
 -- The call of `judge` that it is; `call_yes`, `call_no` and `call_judged` of Judged.antt speak of that.
 pub c_judges : (kind K cutoff n : ℕ) (keys counts text marks : List ℕ) {r : ℕ} {marks' figures₀ figures' : List ℕ}
     → JudgesText r marks' figures₀ figures' (judge (kind_of (edge_kind_of kind)) K cutoff n keys counts text marks)
-    → (a : JudgeAnswer) × Judges a marks' (judge (kind_of (edge_kind_of kind)) K cutoff n keys counts text marks)
+    → (a : Result (Option Broken) JudgeError)
+    × Judges a marks' (judge (kind_of (edge_kind_of kind)) K cutoff n keys counts text marks)
     × (r ≡ number_of (judge_answer a)) × (figures' ≡ noted (figures of_verdict (judge_answer a)) figures₀)
 c_judges kind K cutoff n keys counts text marks {figures₀ = figures₀} c =
     let t = judge_told (kind_of (edge_kind_of kind)) K cutoff n keys counts text marks in (
@@ -226,7 +247,7 @@ module _ (K cutoff L least most : ℕ) (labels starts lengths : List ℕ) (count
 
   -- The call of `panel` that it is; `answered_says` of panel/proofs/Outcomes.antt and `answers_unshared` of
   -- Panels.antt speak of that.
-  pub c_panels : (a : PanelAnswer) × Panels a out' asked × (r ≡ number_of (panel_answer a))
+  pub c_panels : (a : Result ℕ PanelError) × Panels a out' asked × (r ≡ number_of (panel_answer a))
       × (figures' ≡ noted (figures of_number (panel_answer a)) figures₀)
   c_panels =
       let t = panel_told K cutoff L least most labels starts lengths count out in (
@@ -237,16 +258,16 @@ module _ (K cutoff L least most : ℕ) (labels starts lengths : List ℕ) (count
       )
 
   -- Where 0 is returned, all labels were answered.
-  pub c_answered : r ≡ 0 → Panels (panels.Answered count) out' asked
+  pub c_answered : r ≡ 0 → Panels (Ok count) out' asked
   c_answered z = go c_panels.0 c_panels.1 c_panels.2
     where
-      go : (a : PanelAnswer) → Panels a out' asked → r ≡ number_of (panel_answer a)
-          → Panels (panels.Answered count) out' asked
-      go (panels.Answered m) a q = rw (answered_all K cutoff L least most labels starts lengths count out a refl) at a
-      go panels.OutOfProfile a q = absurd (omega arith)
-      go panels.WrongBounds a q = absurd (omega arith)
-      go panels.OutOfLabels a q = absurd (omega arith)
-      go panels.NoRoom a q = absurd (omega arith)
+      go : (a : Result ℕ PanelError) → Panels a out' asked → r ≡ number_of (panel_answer a)
+          → Panels (Ok count) out' asked
+      go (Ok m) a q = rw (answered_all K cutoff L least most labels starts lengths count out a refl) at a
+      go (Err panel_errors.OutOfProfile) a q = absurd (omega arith)
+      go (Err panel_errors.WrongBounds) a q = absurd (omega arith)
+      go (Err panel_errors.OutOfLabels) a q = absurd (omega arith)
+      go (Err panel_errors.NoRoom) a q = absurd (omega arith)
 
 -- A call of `lash_contract` and one of `lash_panel` over its list at the same K, as many labels as the first figure
 -- says: where both return 0, the answers share no k-mer.

@@ -6,6 +6,7 @@ use mathlib.Core.List.{List, [], ◌∷◌}
 use Prim.Native.Nat.{ℕ, suc, ◌%◌}
 use lib.Dec.{ltb, eqb}
 use lib.ListN.{length}
+use Rattle.std.proofs.Common.{Option, Some, None, Result, Ok, Err}
 use Rattle.lemmas.proofs.Tests.{choose}
 use Rattle.dna.specs.Letters.{is_base, first_bad}
 use Rattle.dna.specs.Answer.{Answer, gives, refuses, Filled}
@@ -19,30 +20,33 @@ use Rattle.graph.specs.Adding.{Edges, Added, added, add_bases, add_label}
 use Rattle.graph.specs.Several.{Several, untried, add_next, add_each, add_labels}
 use Rattle.graph.specs.Labels.{Run, run}
 use Rattle.graph.specs.Contraction.{Contracted, end_to_end, ends_in, written, finish, contract}
-use Rattle.adding.specs.declared.AddAnswer.{AddAnswer}
-use Rattle.adding.specs.declared.AddAnswer.TheVariants as one
-use Rattle.adding.specs.declared.LabelsAnswer.{LabelsAnswer}
-use Rattle.adding.specs.declared.LabelsAnswer.TheVariants as many
+use Rattle.adding.specs.declared.Addition.{Addition}
+use Rattle.adding.specs.declared.AddError.{AddError}
+use Rattle.adding.specs.declared.AddError.TheVariants as add_errors
+use Rattle.adding.specs.declared.Additions.{Additions}
+use Rattle.adding.specs.declared.OutOfText.{OutOfText}
 use Rattle.adding.specs.Says.{add_answer, labels_say}
-use Rattle.contraction.specs.declared.ContractAnswer.{ContractAnswer}
-use Rattle.contraction.specs.declared.ContractAnswer.TheVariants as all
+use Rattle.contraction.specs.declared.Unitigs.{Unitigs}
+use Rattle.contraction.specs.declared.ContractError.{ContractError}
+use Rattle.contraction.specs.declared.ContractError.TheVariants as contract_errors
 use Rattle.contraction.specs.Says.{contract_answer}
 use Rattle.rules.specs.Listing.{Listing, holds, no_list, listing}
 use Rattle.rules.specs.Verdict.{Verdict, yes, no, verdict}
 use Rattle.rules.specs.Judging.{Judgement, on_list, judge}
-use Rattle.judging.specs.declared.JudgeAnswer.{JudgeAnswer}
-use Rattle.judging.specs.declared.JudgeAnswer.TheVariants as judged
+use Rattle.judging.specs.declared.Broken.{Broken}
+use Rattle.judging.specs.declared.JudgeError.{JudgeError}
+use Rattle.judging.specs.declared.JudgeError.TheVariants as judge_errors
 use Rattle.judging.specs.Answers.{judge_answer}
 use Rattle.panel.specs.Probes.{between}
 use Rattle.panel.specs.Panel.{in_profile, first_starts, panel}
 use Rattle.panel.specs.Says.{panel_answer}
-use Rattle.panel.specs.declared.PanelAnswer.{PanelAnswer}
-use Rattle.panel.specs.declared.PanelAnswer.TheVariants as panels
+use Rattle.panel.specs.declared.PanelError.{PanelError}
+use Rattle.panel.specs.declared.PanelError.TheVariants as panel_errors
 
 -- ---- adding
 
 abbrev Told : Answer Edges → Type 0
-Told a = (x : AddAnswer) × (add_answer x ≡ a)
+Told a = (x : Result Addition AddError) × (add_answer x ≡ a)
 
 abbrev ToldIn : Added → Type 0
 ToldIn a = Told a.answer
@@ -56,19 +60,20 @@ bad_told P none at i (b ∷ s) = choose P (is_base b) (λ _. bad_told P none at 
 pub add_told : (κ : Kind) (rule : Rule) (K n : ℕ) (keys counts label : List ℕ) → Told (add_label κ rule K n keys counts label).answer
 unfolding add_label add_bases
 add_told κ rule K n keys counts label =
-    choose ToldIn (not (ok_k K)) (λ _. (one.UnsupportedK K, refl))
-    (λ _. choose ToldIn (not (fit_for κ K n keys counts)) (λ _. (one.Unfit, refl))
-    (λ _. choose ToldIn (ltb 4096 (length label)) (λ _. (one.TooLong (length label), refl))
-    (λ _. choose ToldIn (ltb (length label) K) (λ _. (one.Added 0 n, refl))
+    choose ToldIn (not (ok_k K)) (λ _. (Err (add_errors.UnsupportedK K), refl))
+    (λ _. choose ToldIn (not (fit_for κ K n keys counts)) (λ _. (Err add_errors.Unfit, refl))
+    (λ _. choose ToldIn (ltb 4096 (length label)) (λ _. (Err (add_errors.TooLong (length label)), refl))
+    (λ _. choose ToldIn (ltb (length label) K) (λ _. (Ok (record { edges = 0; stored = n }), refl))
     (λ _. bad_told (λ (bad : List ℕ). ToldIn (add_bases κ rule K n keys counts label bad)) bases bad_place 0 label))))
   where
     bases : ToldIn (add_bases κ rule K n keys counts label [])
     bases =
         let t = added κ rule K label (table_of n keys counts) in
-        choose ToldIn (ltb (capacity keys counts) (length t.keys)) (λ _. (one.Full, refl)) (λ _. (one.Added _ _, refl))
+        choose ToldIn (ltb (capacity keys counts) (length t.keys)) (λ _. (Err add_errors.Full, refl))
+        (λ _. (Ok (record { edges = _; stored = _ }), refl))
 
     bad_place : (place byte : ℕ) → ToldIn (add_bases κ rule K n keys counts label (place ∷ byte ∷ []))
-    bad_place place byte = (one.InvalidBase place byte, refl)
+    bad_place place byte = (Err (add_errors.InvalidBase place byte), refl)
 
 -- ---- many labels
 
@@ -82,7 +87,7 @@ module _ (κ : Kind) (rule : Rule) (K : ℕ) where
       (λ _ _. either (λ (t : Several). Told (add_each κ rule K t ls).answer) a.answer
       (λ e _.
       let t : Several = record { answer = gives e; labels = suc s.labels; stored = e.stored; keys = a.keys; counts = a.counts } in
-      each_told t ls (one.Added e.edges e.stored, refl))
+      each_told t ls (Ok (record { edges = e.edges; stored = e.stored }), refl))
       (λ r vs q.
       let t : Several =
       record { answer = refuses r vs; labels = s.labels; stored = s.stored; keys = a.keys; counts = a.counts } in
@@ -90,65 +95,67 @@ module _ (κ : Kind) (rule : Rule) (K : ℕ) where
       (λ r vs q. h)
 
   pub labels_told : (n : ℕ) (keys counts text starts lengths : List ℕ) (count : ℕ)
-      → (x : LabelsAnswer) × labels_say n x (add_labels κ rule K n keys counts text starts lengths count)
+      → (x : Result Additions OutOfText) × labels_say n x (add_labels κ rule K n keys counts text starts lengths count)
   unfolding add_labels
   labels_told n keys counts text starts lengths count =
       let s = add_each κ rule K (untried n keys counts) (listed count text starts lengths) in
-      let last = each_told (untried n keys counts) (listed count text starts lengths) (one.Added 0 n, refl) in
-      choose (λ (t : Several). (x : LabelsAnswer) × labels_say n x t) (within text count starts lengths)
-      (λ _. (many.Tried s.labels s.stored last.0, (refl, refl, last.1))) (λ _. (many.OutOfText, (refl, refl, refl)))
+      let last = each_told (untried n keys counts) (listed count text starts lengths)
+          (Ok (record { edges = 0; stored = n }), refl) in
+      choose (λ (t : Several). (x : Result Additions OutOfText) × labels_say n x t) (within text count starts lengths)
+      (λ _. (Ok (record { labels = s.labels; stored = s.stored; last = last.0 }), (refl, refl, last.1)))
+      (λ _. (Err (record {}), (refl, refl, refl)))
 
 -- ---- contraction
 
 module _ (κ : Kind) (K cutoff n : ℕ) (keys counts labels starts lengths marks : List ℕ) where
   abbrev ToldAll : Contracted → Type 0
-  ToldAll c = (x : ContractAnswer) × (contract_answer x ≡ c.answer)
+  ToldAll c = (x : Result Unitigs ContractError) × (contract_answer x ≡ c.answer)
 
   finish_told : (r : Run) → ToldAll (finish κ K cutoff n keys counts labels starts lengths marks r)
   unfolding finish written
   finish_told r =
-      choose ToldAll r.missed (λ _. (all.MissingVertex, refl))
+      choose ToldAll r.missed (λ _. (Err contract_errors.MissingVertex, refl))
       (λ _. choose ToldAll (ltb (length labels) (length (end_to_end r.labels)) || ltb (length starts) (length r.labels)
       || ltb (length lengths) (length r.labels))
-      (λ _. (all.NoRoom, refl)) (λ _. (all.Contracted _ _, refl)))
+      (λ _. (Err contract_errors.NoRoom, refl)) (λ _. (Ok (record { labels = _; bases = _ }), refl)))
 
   pub contract_told : ToldAll (contract κ K cutoff n keys counts labels starts lengths marks)
   unfolding contract
   contract_told =
-      choose ToldAll (not (ok_k K)) (λ _. (all.UnsupportedK K, refl))
-      (λ _. choose ToldAll (not (fit_for κ K n keys counts)) (λ _. (all.Unfit, refl))
-      (λ _. choose ToldAll (not (answers_for κ cutoff)) (λ _. (all.WrongCutoff, refl))
-      (λ _. choose ToldAll (ltb (length marks) n) (λ _. (all.FewMarks, refl))
+      choose ToldAll (not (ok_k K)) (λ _. (Err (contract_errors.UnsupportedK K), refl))
+      (λ _. choose ToldAll (not (fit_for κ K n keys counts)) (λ _. (Err contract_errors.Unfit, refl))
+      (λ _. choose ToldAll (not (answers_for κ cutoff)) (λ _. (Err contract_errors.WrongCutoff, refl))
+      (λ _. choose ToldAll (ltb (length marks) n) (λ _. (Err contract_errors.FewMarks, refl))
       (λ _. finish_told (run K (keys_of n keys) (ends_in κ cutoff (table_of n keys counts)) n)))))
 
 -- ---- the judgement
 
 module _ (κ : Kind) (K cutoff n : ℕ) (keys counts text marks : List ℕ) where
   abbrev ToldOf : Judgement → Type 0
-  ToldOf j = (x : JudgeAnswer) × (judge_answer x ≡ j.answer)
+  ToldOf j = (x : Result (Option Broken) JudgeError) × (judge_answer x ≡ j.answer)
 
-  verdict_told : (v : Verdict) → (x : JudgeAnswer) × (judge_answer x ≡ gives v)
-  verdict_told yes = (judged.Passes, refl)
-  verdict_told (no rule label) = (judged.Breaks rule label, refl)
+  verdict_told : (v : Verdict) → (x : Result (Option Broken) JudgeError) × (judge_answer x ≡ gives v)
+  verdict_told yes = (Ok None, refl)
+  verdict_told (no rule label) = (Ok (Some (record { rule = rule; label = label })), refl)
 
   list_told : (l : Listing) → ToldOf (on_list κ K cutoff n keys counts text marks l)
   unfolding on_list
   list_told (holds ls) = verdict_told (verdict K (keys_of n keys) (ends_in κ cutoff (table_of n keys counts)) ls)
-  list_told no_list = (judged.NoList, refl)
+  list_told no_list = (Err judge_errors.NoList, refl)
 
   pub judge_told : ToldOf (judge κ K cutoff n keys counts text marks)
   unfolding judge
   judge_told =
-      choose ToldOf (not (ok_k K)) (λ _. (judged.UnsupportedK K, refl))
-      (λ _. choose ToldOf (not (fit_for κ K n keys counts)) (λ _. (judged.Unfit, refl))
-      (λ _. choose ToldOf (not (answers_for κ cutoff)) (λ _. (judged.WrongCutoff, refl))
-      (λ _. choose ToldOf (ltb (length marks) n) (λ _. (judged.FewMarks, refl))
-      (λ _. choose ToldOf (eqb (K % 2) 0) (λ _. (judged.EvenK, refl)) (λ _. list_told (listing K text))))))
+      choose ToldOf (not (ok_k K)) (λ _. (Err (judge_errors.UnsupportedK K), refl))
+      (λ _. choose ToldOf (not (fit_for κ K n keys counts)) (λ _. (Err judge_errors.Unfit, refl))
+      (λ _. choose ToldOf (not (answers_for κ cutoff)) (λ _. (Err judge_errors.WrongCutoff, refl))
+      (λ _. choose ToldOf (ltb (length marks) n) (λ _. (Err judge_errors.FewMarks, refl))
+      (λ _. choose ToldOf (eqb (K % 2) 0) (λ _. (Err judge_errors.EvenK, refl)) (λ _. list_told (listing K text))))))
 
 -- ---- a panel
 
 abbrev ToldFor : Filled → Type 0
-ToldFor f = (x : PanelAnswer) × (panel_answer x ≡ f.answer)
+ToldFor f = (x : Result ℕ PanelError) × (panel_answer x ≡ f.answer)
 
 pub panel_told : (K cutoff L least most : ℕ) (labels starts lengths : List ℕ) (count : ℕ) (out : List ℕ)
     → ToldFor (panel K cutoff L least most labels starts lengths count out)
@@ -158,7 +165,7 @@ panel_told K cutoff L least most labels starts lengths count out =
     (λ _. choose ToldFor (between least most L)
     (λ _. choose ToldFor (within labels count starts lengths)
     (λ _. choose ToldFor (ltb (length out) (length (first_starts L least most labels starts lengths count)))
-    (λ _. (panels.NoRoom, refl)) (λ _. (panels.Answered _, refl)))
-    (λ _. (panels.OutOfLabels, refl)))
-    (λ _. (panels.WrongBounds, refl)))
-    (λ _. (panels.OutOfProfile, refl))
+    (λ _. (Err panel_errors.NoRoom, refl)) (λ _. (Ok _, refl)))
+    (λ _. (Err panel_errors.OutOfLabels, refl)))
+    (λ _. (Err panel_errors.WrongBounds, refl)))
+    (λ _. (Err panel_errors.OutOfProfile, refl))

@@ -1,15 +1,15 @@
 -- A table made by calls of `add_label` and `add_labels`, between which its vertices may be copied to other slices. Assumes nothing.
-use Rattle.std.specs.Prelude.{ℕ, ◌≡◌, List, [], ◌∷◌, take}
+use Rattle.std.specs.Prelude.{ℕ, ◌≡◌, List, [], ◌∷◌, take, Result, Ok, Err}
 use Rattle.state.specs.declared.EdgeKind.{EdgeKind}
 use Rattle.state.specs.Says.{kind_of}
 use Rattle.label_index.specs.Entries.{listed}
 use Rattle.graph.specs.Adding.{stored_after, add_label}
 use Rattle.graph.specs.Table.{table_of}
 use Rattle.graph.specs.Several.{add_labels}
-use Rattle.adding.specs.declared.AddAnswer.{AddAnswer}
-use Rattle.adding.specs.declared.AddAnswer.TheVariants as one
-use Rattle.adding.specs.declared.LabelsAnswer.{LabelsAnswer}
-use Rattle.adding.specs.declared.LabelsAnswer.TheVariants as many
+use Rattle.adding.specs.declared.Addition.{Addition}
+use Rattle.adding.specs.declared.AddError.{AddError}
+use Rattle.adding.specs.declared.Additions.{Additions}
+use Rattle.adding.specs.declared.OutOfText.{OutOfText}
 use Rattle.adding.specs.declared.Mode.{Mode}
 use Rattle.adding.specs.declared.Mode.TheVariants as mode
 use Rattle.adding.specs.Says.{add_answer, rule_of, Adds, AddsLabels}
@@ -21,13 +21,13 @@ onto [] done = done
 onto (l ∷ ls) done = onto ls (l ∷ done)
 
 -- How many labels a call of `add_labels` added, and the number stored after it where n were before.
-abbrev pub added_by : LabelsAnswer → ℕ
-added_by (many.Tried added stored last) = added
-added_by many.OutOfText = 0
+abbrev pub added_by : Result Additions OutOfText → ℕ
+added_by (Ok a) = a.labels
+added_by (Err e) = 0
 
-abbrev pub stored_by : ℕ → LabelsAnswer → ℕ
-stored_by n (many.Tried added stored last) = stored
-stored_by n many.OutOfText = n
+abbrev pub stored_by : ℕ → Result Additions OutOfText → ℕ
+stored_by n (Ok a) = a.stored
+stored_by n (Err e) = n
 
 -- The k-mers that the last sentence of demand 3 excepts: in the Rust's mode those of one repeated base, in document 02's none.
 abbrev pub excepted : Mode → ℕ → ℕ → Type 0
@@ -39,10 +39,12 @@ excepted mode.Reversed = Nothing
 pub data Called (kind : EdgeKind) (m : Mode) (K : ℕ) : List (List ℕ) → ℕ → List ℕ → List ℕ → Type 0 where
   fresh : (keys counts : List ℕ) → Called kind m K [] 0 keys counts
   adds : {ls : List (List ℕ)} {n : ℕ} {keys counts : List ℕ} → Called kind m K ls n keys counts
-      → (l : List ℕ) {r : AddAnswer} {keys' counts' : List ℕ} → Adds r keys' counts' (add_label (kind_of kind) (rule_of m) K n keys counts l)
-      → {edges stored : ℕ} → r ≡ one.Added edges stored → Called kind m K (l ∷ ls) stored keys' counts'
+      → (l : List ℕ) {r : Result Addition AddError} {keys' counts' : List ℕ}
+      → Adds r keys' counts' (add_label (kind_of kind) (rule_of m) K n keys counts l)
+      → {edges stored : ℕ} → r ≡ Ok (record { edges = edges; stored = stored })
+      → Called kind m K (l ∷ ls) stored keys' counts'
   adds_many : {ls : List (List ℕ)} {n : ℕ} {keys counts : List ℕ} → Called kind m K ls n keys counts
-      → (text starts lengths : List ℕ) (count : ℕ) {r : LabelsAnswer} {keys' counts' : List ℕ}
+      → (text starts lengths : List ℕ) (count : ℕ) {r : Result Additions OutOfText} {keys' counts' : List ℕ}
       → AddsLabels n r keys' counts' (add_labels (kind_of kind) (rule_of m) K n keys counts text starts lengths count)
       → Called kind m K (onto (take (added_by r) (listed count text starts lengths)) ls) (stored_by n r) keys' counts'
   -- The same vertices in other slices, or other cells behind them: so a caller goes on who was refused with 6.
@@ -51,8 +53,11 @@ pub data Called (kind : EdgeKind) (m : Mode) (K : ℕ) : List (List ℕ) → ℕ
 
 -- Labels given to `add_label` one after the other from none stored, refused ones too: each with its answer, last one first, the number stored,
 -- and the two slices as the last call left them.
-pub data Given (kind : EdgeKind) (m : Mode) (K : ℕ) (keys₀ counts₀ : List ℕ) : List (List ℕ) → List AddAnswer → ℕ → List ℕ → List ℕ → Type 0 where
+pub data Given (kind : EdgeKind) (m : Mode) (K : ℕ) (keys₀ counts₀ : List ℕ)
+    : List (List ℕ) → List (Result Addition AddError) → ℕ → List ℕ → List ℕ → Type 0 where
   none : Given kind m K keys₀ counts₀ [] [] 0 keys₀ counts₀
-  next : {ls : List (List ℕ)} {rs : List AddAnswer} {n : ℕ} {keys counts : List ℕ} → Given kind m K keys₀ counts₀ ls rs n keys counts
-      → (l : List ℕ) {r : AddAnswer} {keys' counts' : List ℕ} → Adds r keys' counts' (add_label (kind_of kind) (rule_of m) K n keys counts l)
+  next : {ls : List (List ℕ)} {rs : List (Result Addition AddError)} {n : ℕ} {keys counts : List ℕ}
+      → Given kind m K keys₀ counts₀ ls rs n keys counts
+      → (l : List ℕ) {r : Result Addition AddError} {keys' counts' : List ℕ}
+      → Adds r keys' counts' (add_label (kind_of kind) (rule_of m) K n keys counts l)
       → Given kind m K keys₀ counts₀ (l ∷ ls) (r ∷ rs) (stored_after n (add_answer r)) keys' counts'

@@ -36,7 +36,7 @@ use Rattle.judging.specs.declared.JudgeError.TheVariants as errors
 use Rattle.marks.specs.Ready.{keys_for, FitTable, Ready}
 use Rattle.judging.specs.Places.{is_held}
 use Rattle.judging.specs.Passing.{labels_in, Finds}
-use Rattle.judging.specs.Answers.{judge_answer, refused_by, Judges, ends_verdict, kmers_verdict}
+use Rattle.judging.specs.Answers.{judge_answer, refused_fit, Judges, ends_verdict, kmers_verdict}
 use Rattle.judging.specs.Standing.{first_in, Placed, Lacking}
 use Rattle.judging.proofs.Lacked.{lacking_is}
 
@@ -169,7 +169,7 @@ module _ (κ : Kind) (K cutoff n : ℕ) (keys counts text marks : List ℕ) wher
   stays = record { answer = refl; marks_after = refl }
 
   module _ {r : Result (Unit {0}) FitError} (t : fit_answer r ≡ fit_call κ K n keys counts) where
-    pub not_taken : (e : FitError) → r ≡ Err e → Judges (Err (refused_by e)) marks (judge κ K cutoff n keys counts text marks)
+    pub not_taken : (e : FitError) → r ≡ Err e → Judges (Err (refused_fit e)) marks (judge κ K cutoff n keys counts text marks)
     unfolding judge
     not_taken (fits.UnsupportedK k) e = let q = told_unsupported κ K n keys counts t e in rw (q.0, q.1) stays
     not_taken fits.Unfit e = let q = told_unfit κ K n keys counts t e in rw (q.0, q.1) stays

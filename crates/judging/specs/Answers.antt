@@ -22,9 +22,9 @@ judge_answer (Err errors.EvenK) = refuses 16 []
 judge_answer (Err errors.NoList) = refuses 17 []
 
 -- Why a list is not judged over a table that is not fit.
-abbrev pub refused_by : FitError → JudgeError
-refused_by (fits.UnsupportedK K) = errors.UnsupportedK K
-refused_by fits.Unfit = errors.Unfit
+abbrev pub refused_fit : FitError → JudgeError
+refused_fit (fits.UnsupportedK K) = errors.UnsupportedK K
+refused_fit fits.Unfit = errors.Unfit
 
 -- A judgement: its answer, and the marks at exit.
 pub record Judges (r : Result (Option Broken) JudgeError) (marks : List ℕ) (j : Judgement) : Type 0 where

@@ -2,7 +2,7 @@
 #![tactic(auto)]
 
 ghost use Rattle.std.specs.Prelude.{◌≡◌};
-ghost use Rattle.judging.specs.Answers.{refused_by};
+ghost use Rattle.judging.specs.Answers.{refused_fit};
 
 use kmer::Kmer;
 use table::FitError;
@@ -37,7 +37,7 @@ pub enum JudgeError {
 }
 
 impl From<FitError> for JudgeError {
-    ghost from_gives = { λ e r. r ≡ refused_by e };
+    ghost from_gives = { λ e r. r ≡ refused_fit e };
 
     fn from(e: FitError) -> JudgeError {
         match e {
