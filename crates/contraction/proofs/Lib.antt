@@ -1,7 +1,6 @@
 pub mod Ahead
 pub mod Anchors
 pub mod Appending
-pub mod Copying
 pub mod Digested
 pub mod Entering
 pub mod Finishing

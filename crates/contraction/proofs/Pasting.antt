@@ -4,9 +4,9 @@ use mathlib.Core.Bool.{true}
 use mathlib.Core.List.{List, append_assoc}
 use Prim.Native.Nat.{ℕ, ◌+◌, ◌-◌, ◌^◌, ◌≤◌, ◌<◌}
 use native.Mathlib.Omega.{arith}
-use lib.ListN.{length, take, drop}
+use lib.ListN.{length, take, drop, length-drop}
 use Rattle.std.specs.Prelude.{Result}
-use lib.Seq.{paste, drop-drop, take_all}
+use lib.Seq.{paste, drop-drop, take_all, length-take-le}
 use borrow.Rule.Slice.PartMut.{mid_of, put_mid, mid_len}
 use Rattle.dna.specs.Text.{over, part}
 use Rattle.dna.proofs.Overwriting.{over_all}
@@ -16,7 +16,9 @@ use Rattle.kmer.specs.Says.{Spells}
 use Rattle.kmer.specs.declared.KmerError.{KmerError}
 use Rattle.kmer.proofs.Spelling.{length_letters}
 use Rattle.kmer.proofs.Given.{letters_given}
-use Rattle.contraction.proofs.Copying.{part_length}
+
+pub part_length : (text : List ℕ) (from n : ℕ) → from + n ≤ length text → length (part text from n) ≡ n
+part_length text from n h = length-take-le n (drop from text) (omega (arith, length-drop from text))
 
 -- A part of n cells that came back as a text of n cells.
 put_back : (buffer text : List ℕ) (at n : ℕ) → at + n ≤ length buffer → length text ≡ n
@@ -25,15 +27,6 @@ put_back buffer text at n h e =
     let m : at + n - at ≡ n = omega arith in
     let t : take n text ≡ text = take_all n text (omega arith) in
     rw (m, drop-drop n at buffer, t) (sym (append_assoc (take at buffer) text (drop (at + n) buffer)))
-
--- A part changed by a function that keeps the length.
-pub put_changed : (f : List ℕ → List ℕ) → ((x : List ℕ) → length (f x) ≡ length x) → (buffer text : List ℕ) (at n : ℕ) → at + n ≤ length buffer
-    → text ≡ f (mid_of at (at + n - at) buffer) → put_mid at (at + n - at) buffer text ≡ paste buffer at (f (part buffer at n)) n
-put_changed f same buffer text at n h e =
-    let m : at + n - at ≡ n = omega arith in
-    let q : text ≡ f (part buffer at n) = rw m at e in
-    let l : length (f (part buffer at n)) ≡ n = same (part buffer at n) ∙ part_length buffer at n h in
-    ap (put_mid at (at + n - at) buffer) q ∙ put_back buffer (f (part buffer at n)) at n h l
 
 -- A part written over by a text of its length.
 put_over : (buffer given text : List ℕ) (at n : ℕ) → at + n ≤ length buffer → length text ≡ n

@@ -18,7 +18,7 @@ use Rattle.graph.specs.Labels.{lesser}
 use Rattle.laws.proofs.Plain.{lesser_length}
 use Rattle.contraction.specs.Says.{WritesLabel}
 use Rattle.contraction.specs.Trail.{letter_count, Ended, Piece, label_from, piece_length}
-use Rattle.contraction.proofs.Copying.{part_length}
+use Rattle.contraction.proofs.Pasting.{part_length}
 use Rattle.contraction.proofs.Placing.{Placed, placed_first, placed_length, placed_more, placed_anew}
 
 -- What is asked: a piece stands in the trail from a place on, and its label has room; the Back walk has n letters.

@@ -84,8 +84,7 @@ fn arrive(
     requires { Ready k keys.now marks.now × Both k (value_of next.here) next }
     ensures { result ≡ arrive_in k keys.now marks.now anchor start (value_of next.here) base }
 {
-    let (here, other) = (next.here, next.other);
-    if other.is_less(here) {
+    if next.other.is_less(next.here) {
         look(
             k,
             keys,
@@ -93,7 +92,7 @@ fn arrive(
             marks,
             anchor,
             start,
-            other,
+            next.other,
             Side::Back,
             base,
         )
@@ -105,7 +104,7 @@ fn arrive(
             marks,
             anchor,
             start,
-            here,
+            next.here,
             Side::Front,
             base,
         )
