@@ -6,7 +6,6 @@ use mathlib.Core.List.{List, [], ◌∷◌, map}
 use Prim.Native.Nat.{ℕ, ◌≤◌}
 use native.Mathlib.Omega.{arith}
 use lib.ListN.{length}
-use Rattle.std.proofs.Common.{Result}
 use Rattle.dna.specs.Answer.{Answer}
 use Rattle.state.specs.Counted.{top, answers_for}
 use Rattle.state.specs.declared.EdgeKind.{EdgeKind}
@@ -31,6 +30,7 @@ use Rattle.laws.proofs.AnyKind.{lists_alike}
 use Rattle.laws.proofs.Beside.{call, next_is, given_beside, answers_alike, given_alike, labels_beside}
 use Rattle.demands.specs.Calls.{Called, Given, none, next}
 use Rattle.demands.proofs.Meets.{called_grown}
+use Rattle.std.specs.Prelude.{Result}
 
 -- ---- contraction
 
@@ -67,8 +67,7 @@ answers_inj (r ∷ rs) [] e = absurd (let z : ◌≡◌ {A = ℕ} 0 1 = cc in om
 answers_inj (r ∷ rs) (s ∷ ss) e =
     let p : add_answer r ≡ add_answer s = cc in
     let q : map add_answer rs ≡ map add_answer ss = cc in
-    ap₂ (λ (a : Result Addition AddError) (rest : List (Result Addition AddError)). a ∷ rest)
-    (add_inj r s p) (answers_inj rs ss q)
+    ap₂ (λ (a : Result Addition AddError) (rest : List (Result Addition AddError)). a ∷ rest) (add_inj r s p) (answers_inj rs ss q)
 
 -- Such a run is the definition's.
 module _ (kind : EdgeKind) (m : Mode) (K : ℕ) (keys₀ counts₀ : List ℕ) where
@@ -81,8 +80,7 @@ module _ (kind : EdgeKind) (m : Mode) (K : ℕ) (keys₀ counts₀ : List ℕ) w
     keys_are : keys ≡ (after ls).keys
     counts_are : counts ≡ (after ls).counts
 
-  given_is : {ls : List (List ℕ)} {rs : List (Result Addition AddError)} {n : ℕ} {keys counts : List ℕ}
-      → Given kind m K keys₀ counts₀ ls rs n keys counts
+  given_is : {ls : List (List ℕ)} {rs : List (Result Addition AddError)} {n : ℕ} {keys counts : List ℕ} → Given kind m K keys₀ counts₀ ls rs n keys counts
       → Is ls rs n keys counts
   unfolding after_each answers_to
   given_is none = record { answers = refl; stored = refl; keys_are = refl; counts_are = refl }
@@ -133,8 +131,7 @@ module _ {kind kind' : EdgeKind} {m : Mode} {K : ℕ} {keys₀ counts₀ counts�
 -- To two tables with the same keys that calls have made by the same labels.
 pub labels_same : {kind kind' : EdgeKind} {m : Mode} {K : ℕ} {ls : List (List ℕ)} {n : ℕ} {keys counts counts' : List ℕ}
     → Called kind m K ls n keys counts → Called kind' m K ls n keys counts' → length counts' ≡ length counts
-    → (text starts lengths : List ℕ) (count : ℕ) (r s : Result Additions OutOfText)
-    {keys₁ counts₁ keys₂ counts₂ : List ℕ}
+    → (text starts lengths : List ℕ) (count : ℕ) (r s : Result Additions OutOfText) {keys₁ counts₁ keys₂ counts₂ : List ℕ}
     → AddsLabels n r keys₁ counts₁ (add_labels (kind_of kind) (rule_of m) K n keys counts text starts lengths count)
     → AddsLabels n s keys₂ counts₂ (add_labels (kind_of kind') (rule_of m) K n keys counts' text starts lengths count)
     → (s ≡ r) × (keys₂ ≡ keys₁)

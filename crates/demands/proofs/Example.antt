@@ -7,7 +7,6 @@ use mathlib.Core.Bool.{true}
 use mathlib.Core.List.{List, [], ◌∷◌, ◌++◌}
 use native.Mathlib.Omega.{arith}
 use lib.ListN.{get_or, replicate}
-use Rattle.std.proofs.Common.{Option, None, Result, Ok, Err}
 use Rattle.dna.specs.Text.{bytes, open_text}
 use Rattle.dna.specs.Letters.{open_letters}
 use Rattle.dna.specs.Order.{open_order}
@@ -24,17 +23,12 @@ use Rattle.graph.specs.Walks.{isolated, open_walks}
 use Rattle.graph.specs.Labels.{open_labels}
 use Rattle.graph.specs.Contraction.{ends_in, contract, open_contraction}
 use Rattle.graph.specs.Fasta.{fasta, open_fasta}
-use Rattle.adding.specs.declared.Addition.{Addition}
-use Rattle.adding.specs.declared.AddError.{AddError}
-use Rattle.adding.specs.declared.AddError.TheVariants.{InvalidBase}
 use Rattle.adding.specs.declared.Mode.TheVariants.{SameCanonical, Reversed}
 use Rattle.contraction.specs.Says.{Contracts}
 use Rattle.fasta.specs.Says.{Lists}
 use Rattle.rules.specs.Listing.{open_listing}
 use Rattle.rules.specs.Verdict.{open_verdict}
 use Rattle.rules.specs.Judging.{judge, open_judging}
-use Rattle.judging.specs.declared.Broken.{Broken}
-use Rattle.judging.specs.declared.JudgeError.{JudgeError}
 use Rattle.judging.specs.Answers.{Judges}
 use Rattle.capi.specs.Says.{noted}
 use Rattle.label_file.specs.LabelFile.{open_label_file}
@@ -47,17 +41,25 @@ use Rattle.demands.proofs.Meets.{call_isolated}
 use Rattle.demands.proofs.Strands.{runs_strands}
 use Rattle.demands.proofs.Judged.{call_judged}
 use Rattle.demands.proofs.ThroughC.{c_called, c_refused, c_called_many, c_meets}
+use Rattle.std.specs.Prelude.{Option, None, Result, Ok, Err}
+use Rattle.adding.specs.declared.Addition.{Addition}
+use Rattle.judging.specs.declared.Broken.{Broken}
+use Rattle.judging.specs.declared.JudgeError.{JudgeError}
+use Rattle.adding.specs.declared.AddError.{AddError}
+use Rattle.adding.specs.declared.AddError.TheVariants.{InvalidBase}
 
--- A label that was added.
-abbrev added : ℕ → ℕ → Result Addition AddError
+-- A label added, with so many edges and so many vertices stored afterwards; and one with N at place 3.
+abbrev pub added : ℕ → ℕ → Result Addition AddError
 added edges stored = Ok (record { edges = edges; stored = stored })
+
+abbrev pub no_base : Result Addition AddError
+no_base = Err (InvalidBase 3 78)
 
 -- P4's labels, CAT and ATG, by one call of `add_labels`.
 pub p4_called : Called Counted SameCanonical 2 (bytes "ATG" ∷ bytes "CAT" ∷ []) 2 (3 ∷ 0 ∷ 4 ∷ 0 ∷ []) (0x01000010 ∷ 0x20000000 ∷ [])
 unfolding open_text open_letters open_kmer open_counted open_table open_sightings open_adding open_entries open_several
 p4_called =
-    adds_many (fresh (9 ∷ 9 ∷ 9 ∷ 9 ∷ []) (7 ∷ 7 ∷ [])) (bytes "CATATG") (0 ∷ 3 ∷ []) (3 ∷ 3 ∷ []) 2
-    {r = Ok (record { labels = 2; stored = 2; last = added 1 2 })}
+    adds_many (fresh (9 ∷ 9 ∷ 9 ∷ 9 ∷ []) (7 ∷ 7 ∷ [])) (bytes "CATATG") (0 ∷ 3 ∷ []) (3 ∷ 3 ∷ []) 2 {r = Ok (record { labels = 2; stored = 2; last = added 1 2 })}
     (record { says = (refl, refl, refl); keys_after = refl; counts_after = refl })
 
 -- P1's label in room for two vertices, where AAA is refused with 6; copied to room for three, and AAA added there.
@@ -70,8 +72,7 @@ unfolding open_text open_letters open_kmer open_counted open_table open_sighting
 p1_moved =
     adds
     (moves
-    (adds (fresh (9 ∷ 9 ∷ 9 ∷ 9 ∷ []) (7 ∷ 7 ∷ [])) (bytes "ACCCC") {r = added 2 2}
-    (record { answer = refl; keys_after = refl; counts_after = refl }) refl)
+    (adds (fresh (9 ∷ 9 ∷ 9 ∷ 9 ∷ []) (7 ∷ 7 ∷ [])) (bytes "ACCCC") {r = added 2 2} (record { answer = refl; keys_after = refl; counts_after = refl }) refl)
     (5 ∷ 0 ∷ 21 ∷ 0 ∷ 8 ∷ 8 ∷ []) (0x00100000 ∷ 0x00100001 ∷ 6 ∷ []) refl)
     (bytes "AAA") {r = added 0 3} (record { answer = refl; keys_after = refl; counts_after = refl }) refl
 
@@ -86,8 +87,7 @@ counts = 0 ∷ 0x00100000 ∷ 0x00100001 ∷ []
 abbrev zeros : ℕ → List ℕ
 zeros n = replicate n 0
 
-pub p1_contracted : Contracts (Ok (record { labels = 1; bases = 4 })) (bytes "ACCC" ++ zeros 5) (zeros 3)
-    (4 ∷ 0 ∷ 0 ∷ []) (0 ∷ 1 ∷ 1 ∷ [])
+pub p1_contracted : Contracts (Ok (record { labels = 1; bases = 4 })) (bytes "ACCC" ++ zeros 5) (zeros 3) (4 ∷ 0 ∷ 0 ∷ []) (0 ∷ 1 ∷ 1 ∷ [])
     (contract four_bits 3 1 3 keys counts (zeros 9) (zeros 3) (zeros 3) (zeros 3))
 unfolding open_text open_letters open_order open_kmer open_counted open_table open_walks open_labels open_contraction
 p1_contracted = record { answer = refl; labels_after = refl; starts_after = refl; lengths_after = refl; marks_after = refl }
@@ -155,8 +155,7 @@ loops = 0x00100000 ∷ 0x00100011 ∷ []
 pub loop_called : Called Counted Reversed 3 (bytes "ACCCC" ∷ []) 2 keys₂ loops
 unfolding open_text open_letters open_kmer open_counted open_table open_sightings open_adding
 loop_called =
-    adds (fresh (9 ∷ 9 ∷ 9 ∷ 9 ∷ []) (7 ∷ 7 ∷ [])) (bytes "ACCCC") {r = added 2 2}
-    (record { answer = refl; keys_after = refl; counts_after = refl })
+    adds (fresh (9 ∷ 9 ∷ 9 ∷ 9 ∷ []) (7 ∷ 7 ∷ [])) (bytes "ACCCC") {r = added 2 2} (record { answer = refl; keys_after = refl; counts_after = refl })
     refl
 
 -- Through C, where 7 names it too: the other strand, in small letters and with U, to slices with room for a third vertex.
@@ -180,23 +179,18 @@ abbrev bits₂ : List ℕ
 bits₂ = 0x100 ∷ 0x108 ∷ []
 
 -- ACCN is refused and ACCCC added, with counts and with presence bits.
-pub counts_given : Given Counted SameCanonical 3 (9 ∷ 9 ∷ 9 ∷ 9 ∷ []) (7 ∷ 7 ∷ []) (bytes "ACCCC" ∷ bytes "ACCN" ∷ [])
-    (added 2 2 ∷ Err (InvalidBase 3 78) ∷ []) 2 keys₂ counts₂
+pub counts_given : Given Counted SameCanonical 3 (9 ∷ 9 ∷ 9 ∷ 9 ∷ []) (7 ∷ 7 ∷ []) (bytes "ACCCC" ∷ bytes "ACCN" ∷ []) (added 2 2 ∷ no_base ∷ [])
+    2 keys₂ counts₂
 unfolding open_text open_letters open_kmer open_counted open_table open_sightings open_adding
 counts_given =
-    next
-    (next none (bytes "ACCN") {r = Err (InvalidBase 3 78)}
-    (record { answer = refl; keys_after = refl; counts_after = refl }))
+    next (next none (bytes "ACCN") {r = no_base} (record { answer = refl; keys_after = refl; counts_after = refl }))
     (bytes "ACCCC") {r = added 2 2} (record { answer = refl; keys_after = refl; counts_after = refl })
 
-pub presence_given : Given Presence SameCanonical 3 (9 ∷ 9 ∷ 9 ∷ 9 ∷ []) (7 ∷ 7 ∷ [])
-    (bytes "ACCCC" ∷ bytes "ACCN" ∷ [])
-    (added 2 2 ∷ Err (InvalidBase 3 78) ∷ []) 2 keys₂ bits₂
+pub presence_given : Given Presence SameCanonical 3 (9 ∷ 9 ∷ 9 ∷ 9 ∷ []) (7 ∷ 7 ∷ []) (bytes "ACCCC" ∷ bytes "ACCN" ∷ []) (added 2 2 ∷ no_base ∷ [])
+    2 keys₂ bits₂
 unfolding open_text open_letters open_kmer open_counted open_table open_sightings open_adding
 presence_given =
-    next
-    (next none (bytes "ACCN") {r = Err (InvalidBase 3 78)}
-    (record { answer = refl; keys_after = refl; counts_after = refl }))
+    next (next none (bytes "ACCN") {r = no_base} (record { answer = refl; keys_after = refl; counts_after = refl }))
     (bytes "ACCCC") {r = added 2 2} (record { answer = refl; keys_after = refl; counts_after = refl })
 
 -- Through C, where 7 names them too.
@@ -224,13 +218,11 @@ presence_met_through_c =
 -- ---- a list judged
 
 -- The list of that table as FASTA, judged: all that `call_judged` asks is met.
-p1_written : Lists (Ok 8) (bytes ">0\nACCC\n" ++ zeros 1)
-    (fasta (bytes "ACCC" ++ zeros 5) (zeros 3) (4 ∷ 0 ∷ 0 ∷ []) 1 (zeros 9))
+p1_written : Lists (Ok 8) (bytes ">0\nACCC\n" ++ zeros 1) (fasta (bytes "ACCC" ++ zeros 5) (zeros 3) (4 ∷ 0 ∷ 0 ∷ []) 1 (zeros 9))
 unfolding open_text open_entries open_fasta
 p1_written = record { answer = refl; slice = refl }
 
-p1_judging : Judges (Ok None) (zeros 3 ++ (7 ∷ []))
-    (judge four_bits 3 1 3 keys counts (bytes ">0\nACCC\n") (7 ∷ 7 ∷ 7 ∷ 7 ∷ []))
+p1_judging : Judges (Ok None) (zeros 3 ++ (7 ∷ [])) (judge four_bits 3 1 3 keys counts (bytes ">0\nACCC\n") (7 ∷ 7 ∷ 7 ∷ 7 ∷ []))
 unfolding open_text open_letters open_order open_kmer open_counted open_table open_walks open_contraction open_windows open_demand open_listing open_verdict open_judging
 p1_judging = record { answer = refl; marks_after = refl }
 

@@ -20,6 +20,7 @@ use Rattle.adding.specs.declared.Additions.{Additions}
 use Rattle.adding.specs.declared.OutOfText.{OutOfText}
 use Rattle.adding.specs.Says.{AddsLabels}
 use Rattle.demands.specs.Calls.{onto, added_by, stored_by}
+use Rattle.std.specs.Prelude.{Result, Ok, Err}
 
 module _ (κ : Kind) (rule : Rule) (K : ℕ) where
   abbrev GrownTo : List (List ℕ) → Several → Type 0

@@ -8,7 +8,6 @@ use native.Mathlib.Omega.{arith}
 use lib.Dec.{ltb}
 use lib.ListN.{length, take, drop}
 use lib.Seq.{take-append_seam}
-use Rattle.std.proofs.Common.{Option, Some, None, Result, Ok, Err}
 use Rattle.lemmas.proofs.Tests.{choose}
 use Rattle.dna.specs.Answer.{gives, Filled}
 use Rattle.kmer.specs.Kmer.{ok_k}
@@ -40,10 +39,11 @@ use Rattle.rules.proofs.Verdicts.{yes_passes, yes_complete}
 use Rattle.rules.proofs.Judging.{call_says, call_judges, own_fasta}
 use Rattle.judging.specs.declared.Broken.{Broken}
 use Rattle.judging.specs.declared.JudgeError.{JudgeError}
-use Rattle.judging.specs.declared.JudgeError.TheVariants as judge_errors
+use Rattle.judging.specs.declared.JudgeError.TheVariants as judged
 use Rattle.judging.specs.Answers.{judge_answer, Judges}
 use Rattle.demands.specs.Calls.{excepted, Called}
 use Rattle.demands.proofs.Meets.{lawful, called_grown}
+use Rattle.std.specs.Prelude.{Option, Some, None, Result, Ok, Err}
 
 -- The k-mers that a mode excepts are of one repeated base.
 only_bases : (m : Mode) (K x : ℕ) → excepted m K x → OneBase K x
@@ -54,17 +54,16 @@ only_bases mode.Reversed K x o = absurd o
 passes_only : (v : Result (Option Broken) JudgeError) → judge_answer v ≡ gives yes → v ≡ Ok None
 passes_only (Ok None) e = refl
 passes_only (Ok (Some b)) e = absurd (let z : ◌≡◌ {A = ℕ} 0 1 = cc in omega arith)
-passes_only (Err (judge_errors.UnsupportedK K)) e = absurd (let z : ◌≡◌ {A = ℕ} 0 1 = cc in omega arith)
-passes_only (Err judge_errors.Unfit) e = absurd (let z : ◌≡◌ {A = ℕ} 0 1 = cc in omega arith)
-passes_only (Err judge_errors.WrongCutoff) e = absurd (let z : ◌≡◌ {A = ℕ} 0 1 = cc in omega arith)
-passes_only (Err judge_errors.FewMarks) e = absurd (let z : ◌≡◌ {A = ℕ} 0 1 = cc in omega arith)
-passes_only (Err judge_errors.EvenK) e = absurd (let z : ◌≡◌ {A = ℕ} 0 1 = cc in omega arith)
-passes_only (Err judge_errors.NoList) e = absurd (let z : ◌≡◌ {A = ℕ} 0 1 = cc in omega arith)
+passes_only (Err (judged.UnsupportedK K)) e = absurd (let z : ◌≡◌ {A = ℕ} 0 1 = cc in omega arith)
+passes_only (Err judged.Unfit) e = absurd (let z : ◌≡◌ {A = ℕ} 0 1 = cc in omega arith)
+passes_only (Err judged.WrongCutoff) e = absurd (let z : ◌≡◌ {A = ℕ} 0 1 = cc in omega arith)
+passes_only (Err judged.FewMarks) e = absurd (let z : ◌≡◌ {A = ℕ} 0 1 = cc in omega arith)
+passes_only (Err judged.EvenK) e = absurd (let z : ◌≡◌ {A = ℕ} 0 1 = cc in omega arith)
+passes_only (Err judged.NoList) e = absurd (let z : ◌≡◌ {A = ℕ} 0 1 = cc in omega arith)
 
 -- ---- a call of `judge`, known by its contract
 
-module _ (kind : EdgeKind) (K cutoff n : ℕ) (keys counts text marks : List ℕ) {r : Result (Option Broken) JudgeError}
-    {marks' : List ℕ}
+module _ (kind : EdgeKind) (K cutoff n : ℕ) (keys counts text marks : List ℕ) {r : Result (Option Broken) JudgeError} {marks' : List ℕ}
     (c : Judges r marks' (judge (kind_of kind) K cutoff n keys counts text marks)) where
   abbrev ks : List ℕ
   ks = keys_of n keys
@@ -89,8 +88,7 @@ module _ (kind : EdgeKind) (K cutoff n : ℕ) (keys counts text marks : List ℕ
       ∙ ap gives (yes_complete K ks es (ok_bounds K ok).0 odd f ls (lists_labels K l) p))
 
   -- where it answers no, the text holds a list whose first broken rule and lowest label concerned it names.
-  pub call_no : {rule label : ℕ} → r ≡ Ok (Some (record { rule = rule; label = label }))
-      → (ls : List (List ℕ)) × Holds K text ls × Judged K ks es ls (no rule label)
+  pub call_no : {rule label : ℕ} → r ≡ Ok (Some (record { rule = rule; label = label })) → (ls : List (List ℕ)) × Holds K text ls × Judged K ks es ls (no rule label)
   call_no {rule} {label} e =
       let s = call_says (kind_of kind) K cutoff n keys counts text marks (no rule label) (sym c.answer ∙ ap judge_answer e) in
       (s.labels, s.lists, s.says)
@@ -98,8 +96,7 @@ module _ (kind : EdgeKind) (K cutoff n : ℕ) (keys counts text marks : List ℕ
 -- ---- what our own calls list
 
 -- What was written is the records.
-written : {f : Result ℕ FastaError} (out : List ℕ) {out' : List ℕ} {size : ℕ} (labels starts lengths : List ℕ)
-    (count : ℕ)
+written : {f : Result ℕ FastaError} (out : List ℕ) {out' : List ℕ} {size : ℕ} (labels starts lengths : List ℕ) (count : ℕ)
     → Lists f out' (fasta labels starts lengths count out) → f ≡ Ok size → take size out'
     ≡ records_of (listed count labels starts lengths)
 unfolding fasta
@@ -119,12 +116,10 @@ written {f} out {out'} {size} labels starts lengths count d e =
 -- marks: the call of `judge` with the bytes written says yes.
 pub call_judged : {kind : EdgeKind} {m : Mode} {K : ℕ} {ls : List (List ℕ)} {n : ℕ} {keys counts : List ℕ}
     → Called kind m K ls n keys counts
-    → K % 2 ≡ 1 → (cutoff : ℕ) (labels starts lengths marks : List ℕ) {r : Result Unitigs ContractError}
-    {labels' starts' lengths' marks' : List ℕ}
+    → K % 2 ≡ 1 → (cutoff : ℕ) (labels starts lengths marks : List ℕ) {r : Result Unitigs ContractError} {labels' starts' lengths' marks' : List ℕ}
     → Contracts r labels' starts' lengths' marks' (contract (kind_of kind) K cutoff n keys counts labels starts lengths marks)
     → {number bases : ℕ} → r ≡ Ok (record { labels = number; bases = bases })
-    → (out : List ℕ) {f : Result ℕ FastaError} {out' : List ℕ}
-    → Lists f out' (fasta labels' starts' lengths' number out) → {size : ℕ} → f
+    → (out : List ℕ) {f : Result ℕ FastaError} {out' : List ℕ} → Lists f out' (fasta labels' starts' lengths' number out) → {size : ℕ} → f
     ≡ Ok size
     → (spare : List ℕ) → n ≤ length spare → {v : Result (Option Broken) JudgeError} {spare' : List ℕ}
     → Judges v spare' (judge (kind_of kind) K cutoff n keys counts (take size out') spare) → v ≡ Ok None

@@ -6,7 +6,6 @@ use mathlib.Core.Logic.{◌⊎◌}
 use mathlib.Core.List.{List, []}
 use Prim.Native.Nat.{ℕ, ◌*◌, ◌%◌, ◌≤◌, ◌<◌}
 use lib.ListN.{length, get_or, take}
-use Rattle.std.proofs.Common.{Result, Ok, Err}
 use Rattle.dna.specs.Answer.{gives, refuses}
 use Rattle.state.specs.declared.EdgeKind.{EdgeKind}
 use Rattle.state.specs.Says.{kind_of}
@@ -24,7 +23,7 @@ use Rattle.adding.specs.declared.Mode.TheVariants as mode
 use Rattle.adding.specs.Says.{add_answer, rule_of, Adds}
 use Rattle.contraction.specs.declared.Unitigs.{Unitigs}
 use Rattle.contraction.specs.declared.ContractError.{ContractError}
-use Rattle.contraction.specs.declared.ContractError.TheVariants as contract_errors
+use Rattle.contraction.specs.declared.ContractError.TheVariants as answers
 use Rattle.contraction.specs.Says.{contract_answer, Contracts}
 use Rattle.laws.specs.Grown.{Grown, Grown.fresh, Grown.accepts, Grown.moves}
 use Rattle.laws.specs.Windows.{occurrences}
@@ -45,6 +44,7 @@ use Rattle.demands.specs.Calls.{
   Called.moves as elsewhere,
 }
 use Rattle.demands.proofs.Growing.{added_grown}
+use Rattle.std.specs.Prelude.{Result, Ok, Err}
 
 -- Each mode has a rule that demand 3 can do with.
 pub lawful : (m : Mode) (K : ℕ) → Lawful (excepted m K) (rule_of m) K
@@ -63,8 +63,7 @@ called_grown (elsewhere c keys' counts' e) = moves (called_grown c) keys' counts
 
 -- A refused call leaves the table as it was.
 pub called_refused : {kind : EdgeKind} {m : Mode} {K : ℕ} {ls : List (List ℕ)} {n : ℕ} {keys counts : List ℕ} → Called kind m K ls n keys counts
-    → (l : List ℕ) {r : Result Addition AddError} {keys' counts' : List ℕ}
-    → Adds r keys' counts' (add_label (kind_of kind) (rule_of m) K n keys counts l)
+    → (l : List ℕ) {r : Result Addition AddError} {keys' counts' : List ℕ} → Adds r keys' counts' (add_label (kind_of kind) (rule_of m) K n keys counts l)
     → (x : ℕ) (vs : List ℕ) → add_answer r ≡ refuses x vs → Called kind m K ls n keys' counts'
 called_refused {kind} {m} {K} {n = n} {keys = keys} {counts = counts} c l a x vs e =
     let s = refused_same (kind_of kind) (rule_of m) K n keys counts l x vs (sym a.answer ∙ e) in
@@ -130,12 +129,11 @@ module _ (kind : EdgeKind) (K cutoff n : ℕ) (keys counts labels starts lengths
         ∙ grown_isolated (lawful m K) (called_grown g) cutoff h v l i)
 
   -- Over such a table no vertex is ever missing.
-  pub call_finds : {m : Mode} {ls : List (List ℕ)} → Called kind m K ls n keys counts
-      → r ≡ Err contract_errors.MissingVertex → ⊥
+  pub call_finds : {m : Mode} {ls : List (List ℕ)} → Called kind m K ls n keys counts → r ≡ Err answers.MissingVertex → ⊥
   call_finds g e = grown_contract (called_grown g) cutoff labels starts lengths marks [] (sym c.answer ∙ ap contract_answer e)
 
   -- Room for n times K bases and n entries is always enough: it is never refused with 9.
-  pub call_fits : K * n ≤ length labels → n ≤ length starts → n ≤ length lengths → r ≡ Err contract_errors.NoRoom → ⊥
+  pub call_fits : K * n ≤ length labels → n ≤ length starts → n ≤ length lengths → r ≡ Err answers.NoRoom → ⊥
   call_fits b s l e =
       contract_fits (kind_of kind) K cutoff n keys counts labels starts lengths marks b s l [] (sym c.answer ∙ ap contract_answer e)
 

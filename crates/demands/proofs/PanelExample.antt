@@ -25,6 +25,7 @@ use Rattle.panel.specs.Panel.{panel, open_panel}
 use Rattle.panel.specs.Says.{Panels}
 use Rattle.demands.specs.Probes.{probe_at, Unshared}
 use Rattle.demands.proofs.Panels.{panel_unshared}
+use Rattle.std.specs.Prelude.{Ok}
 
 -- Each strain is read from both strands; the last read has an error, which is seen once and so falls below the cutoff.
 unfoldable pub reads : List (List ℕ)

@@ -7,7 +7,6 @@ use mathlib.Core.List.{List, []}
 use Prim.Native.Nat.{ℕ, ◌≤◌, ◌<◌}
 use native.Mathlib.Omega.{arith}
 use lib.ListN.{length, get_or}
-use Rattle.std.proofs.Common.{Option, None, Result, Ok}
 use Rattle.lemmas.proofs.Numbers.{lt_or_ge}
 use Rattle.state.specs.declared.EdgeKind.{EdgeKind}
 use Rattle.state.specs.Says.{kind_of}
@@ -37,6 +36,7 @@ use Rattle.panel.proofs.Outcomes.{answered_profile, answered_inside}
 use Rattle.demands.specs.Probes.{probe_at, Unshared}
 use Rattle.demands.proofs.Meets.{call_always}
 use Rattle.demands.proofs.Judged.{call_yes}
+use Rattle.std.specs.Prelude.{Option, None, Result, Ok}
 
 -- ---- any list in which no k-mer stands twice, and any answers
 
@@ -73,8 +73,7 @@ module _ (K L : ℕ) (one : 1 ≤ K) (labels starts lengths : List ℕ) (count :
 -- ---- a call of `panel` that was answered, known by its contract
 
 module _ (K cutoff L least most : ℕ) (labels starts lengths : List ℕ) (count : ℕ) (out : List ℕ)
-    {r : Result ℕ PanelError} {out' : List ℕ}
-    (p : Panels r out' (panel K cutoff L least most labels starts lengths count out))
+    {r : Result ℕ PanelError} {out' : List ℕ} (p : Panels r out' (panel K cutoff L least most labels starts lengths count out))
     {m : ℕ} (e : r ≡ Ok m) where
   pub answers_unshared : ((x : ℕ) → occurrences K x (listed count labels starts lengths) ≤ 1)
       → Unshared K L labels starts lengths count out'
@@ -115,12 +114,10 @@ module _ (kind : EdgeKind) (K cutoff n : ℕ) (keys counts labels starts lengths
 
 -- ---- over a list that `judge` has passed, and any index that lists its labels
 
-module _ (kind : EdgeKind) (K cutoff n : ℕ) (keys counts text marks : List ℕ) {v : Result (Option Broken) JudgeError}
-    {marks' : List ℕ}
+module _ (kind : EdgeKind) (K cutoff n : ℕ) (keys counts text marks : List ℕ) {v : Result (Option Broken) JudgeError} {marks' : List ℕ}
     (j : Judges v marks' (judge (kind_of kind) K cutoff n keys counts text marks)) (yes : v ≡ Ok None)
     (said L least most : ℕ) (labels starts lengths : List ℕ) (count : ℕ) (out : List ℕ)
-    {s : Result ℕ PanelError} {out' : List ℕ}
-    (p : Panels s out' (panel K said L least most labels starts lengths count out)) where
+    {s : Result ℕ PanelError} {out' : List ℕ} (p : Panels s out' (panel K said L least most labels starts lengths count out)) where
   pub judged_unshared : Holds K text (listed count labels starts lengths) → {m : ℕ} → s ≡ Ok m
       → Unshared K L labels starts lengths count out'
   judged_unshared h f =

@@ -5,7 +5,6 @@ use mathlib.Core.Bool.{true}
 use mathlib.Core.List.{List, []}
 use Prim.Native.Nat.{ℕ, suc, ◌%◌, ◌≤◌}
 use lib.ListN.{length, replicate}
-use Rattle.std.proofs.Common.{Result, Ok}
 use Rattle.dna.specs.Text.{bytes, open_text}
 use Rattle.dna.specs.Answer.{gives}
 use Rattle.kmer.specs.Kmer.{ok_k}
@@ -37,6 +36,7 @@ use Rattle.demands.specs.Probes.{Unshared}
 use Rattle.demands.proofs.Growing.{Grows, grows}
 use Rattle.demands.proofs.Program.{program_prints}
 use Rattle.demands.proofs.Panels.{answers_unshared}
+use Rattle.std.specs.Prelude.{Result, Ok}
 
 -- Yes is printed in a text that has room for it.
 yes_printed : (p : ℕ) (b : Buffers) (j : Judgement) → b.text ≡ replicate 64 0 → j.answer ≡ gives yes
@@ -86,8 +86,7 @@ pub printed_unshared : (file : List ℕ) {K cutoff : ℕ} {labels : List (List �
     → length (records_of (list K cutoff labels t.labels)) ≤ 8192
     → (said L least most : ℕ) (bases starts lengths : List ℕ) (count : ℕ) (out : List ℕ)
     → Lists K (unitigs file) (listed count bases starts lengths)
-    → {r : Result ℕ PanelError} {out' : List ℕ}
-    → Panels r out' (panel K said L least most bases starts lengths count out)
+    → {r : Result ℕ PanelError} {out' : List ℕ} → Panels r out' (panel K said L least most bases starts lengths count out)
     → {m : ℕ} → r ≡ Ok m → Unshared K L bases starts lengths count out'
 printed_unshared file {K} {cutoff} {labels} sound supported added {t} given fits said L least most bases starts lengths
     count out held p answered =

@@ -4,7 +4,6 @@ use mathlib.Core.Path.{◌≡◌, refl, sym, ap, ◌∙◌}
 use mathlib.Core.Bool.{true}
 use mathlib.Core.List.{List}
 use Prim.Native.Nat.{ℕ, ◌%◌}
-use Rattle.std.proofs.Common.{Result, Ok, Err}
 use Rattle.dna.specs.Answer.{gives}
 use Rattle.dna.proofs.Answers.{ungiven}
 use Rattle.state.specs.declared.EdgeKind.{EdgeKind}
@@ -31,6 +30,7 @@ use Rattle.laws.proofs.Turned.{alike_given, either_alike, each_alike, grown_turn
 use Rattle.laws.proofs.Tables.{grown_same, contract_same}
 use Rattle.demands.specs.Calls.{Called, added_by, stored_by}
 use Rattle.demands.proofs.Meets.{called_grown}
+use Rattle.std.specs.Prelude.{Result, Ok, Err}
 
 -- What is the same where two results are alike.
 left_alike : (n : ℕ) {a b : Added} → Alike a b → (a.keys ≡ b.keys) × (a.counts ≡ b.counts) × (stored_after n a.answer ≡ stored_after n b.answer)
@@ -46,9 +46,8 @@ all_alike_given all_same e h = refl
 all_alike_given (last_no_base {beside' = beside'}) e h = ungiven e 3 beside' (sym h)
 
 -- What a call of `add_labels` tells of the labels added and the number stored.
-told : (n : ℕ) (r : Result Additions OutOfText) (s : Several) → labels_say n r s → (added_by r ≡ s.labels)
-    × (stored_by n r ≡ s.stored)
-told n (Ok t) s h = (h.0, h.1)
+told : (n : ℕ) (r : Result Additions OutOfText) (s : Several) → labels_say n r s → (added_by r ≡ s.labels) × (stored_by n r ≡ s.stored)
+told n (Ok a) s h = (h.0, h.1)
 told n (Err e) s h = (h.0, h.1)
 
 module _ (kind : EdgeKind) (K : ℕ) (odd : K % 2 ≡ 1) where
@@ -56,8 +55,7 @@ module _ (kind : EdgeKind) (K : ℕ) (odd : K % 2 ≡ 1) where
 
   module _ (n : ℕ) (keys counts : List ℕ) where
     -- `add_label`, of labels that read as each other on one strand or the other.
-    module _ {l m : List ℕ} (t : EitherStrand l m) {r s : Result Addition AddError}
-        {keys' counts' keys'' counts'' : List ℕ}
+    module _ {l m : List ℕ} (t : EitherStrand l m) {r s : Result Addition AddError} {keys' counts' keys'' counts'' : List ℕ}
         (a : Adds r keys' counts' (add_label (kind_of kind) reversed K n keys counts l))
         (b : Adds s keys'' counts'' (add_label (kind_of kind) reversed K n keys counts m)) where
       -- Both slices and the number stored, whatever is answered;
@@ -106,14 +104,11 @@ module _ (kind : EdgeKind) (K : ℕ) (odd : K % 2 ≡ 1) where
           )
 
       -- and where none is refused, the answer.
-      pub calls_answers : {labels stored edges now : ℕ}
-          → r ≡ Ok (record { labels = labels; stored = stored; last = Ok (record { edges = edges; stored = now }) })
-          → s ≡ r
+      pub calls_answers : {labels stored edges now : ℕ} → r
+          ≡ Ok (record { labels = labels; stored = stored; last = Ok (record { edges = edges; stored = now }) }) → s ≡ r
       calls_answers {labels} {stored} {edges} {now} q =
           let e : Edges = record { edges = edges; stored = now } in
-          let last : Result Addition AddError = Ok (record { edges = edges; stored = now }) in
-          let all : Additions = record { labels = labels; stored = stored; last = last } in
-          let w : labels_say n (Ok all) first = rw q at a.says in
+          let w : labels_say n (Ok (record { labels = labels; stored = stored; last = Ok (record { edges = edges; stored = now }) })) first = rw q at a.says in
           let h = all_alike_given labels_alike e (sym w.2) in
           (adds_labels_one n s r (rw h at b) a).0
 
@@ -134,8 +129,7 @@ module _ (kind : EdgeKind) (K : ℕ) (odd : K % 2 ≡ 1) where
         (rw q at (grown_fit_for (called_grown d))) (rw q at runs_strands.1))
 
     -- A call of `contract` over the one is a call over the other: they have one list.
-    pub lists_strands : (cutoff : ℕ) (labels starts lengths marks : List ℕ) {r : Result Unitigs ContractError}
-        {labels' starts' lengths' marks' : List ℕ}
+    pub lists_strands : (cutoff : ℕ) (labels starts lengths marks : List ℕ) {r : Result Unitigs ContractError} {labels' starts' lengths' marks' : List ℕ}
         → Contracts r labels' starts' lengths' marks' (contract (kind_of kind) K cutoff n' keys' counts' labels starts lengths marks)
         → Contracts r labels' starts' lengths' marks' (contract (kind_of kind) K cutoff n keys counts labels starts lengths marks)
     lists_strands cutoff labels starts lengths marks a = rw (contract_strands cutoff labels starts lengths marks) at a

@@ -39,10 +39,8 @@ excepted mode.Reversed = Nothing
 pub data Called (kind : EdgeKind) (m : Mode) (K : ℕ) : List (List ℕ) → ℕ → List ℕ → List ℕ → Type 0 where
   fresh : (keys counts : List ℕ) → Called kind m K [] 0 keys counts
   adds : {ls : List (List ℕ)} {n : ℕ} {keys counts : List ℕ} → Called kind m K ls n keys counts
-      → (l : List ℕ) {r : Result Addition AddError} {keys' counts' : List ℕ}
-      → Adds r keys' counts' (add_label (kind_of kind) (rule_of m) K n keys counts l)
-      → {edges stored : ℕ} → r ≡ Ok (record { edges = edges; stored = stored })
-      → Called kind m K (l ∷ ls) stored keys' counts'
+      → (l : List ℕ) {r : Result Addition AddError} {keys' counts' : List ℕ} → Adds r keys' counts' (add_label (kind_of kind) (rule_of m) K n keys counts l)
+      → {edges stored : ℕ} → r ≡ Ok (record { edges = edges; stored = stored }) → Called kind m K (l ∷ ls) stored keys' counts'
   adds_many : {ls : List (List ℕ)} {n : ℕ} {keys counts : List ℕ} → Called kind m K ls n keys counts
       → (text starts lengths : List ℕ) (count : ℕ) {r : Result Additions OutOfText} {keys' counts' : List ℕ}
       → AddsLabels n r keys' counts' (add_labels (kind_of kind) (rule_of m) K n keys counts text starts lengths count)
@@ -53,11 +51,8 @@ pub data Called (kind : EdgeKind) (m : Mode) (K : ℕ) : List (List ℕ) → ℕ
 
 -- Labels given to `add_label` one after the other from none stored, refused ones too: each with its answer, last one first, the number stored,
 -- and the two slices as the last call left them.
-pub data Given (kind : EdgeKind) (m : Mode) (K : ℕ) (keys₀ counts₀ : List ℕ)
-    : List (List ℕ) → List (Result Addition AddError) → ℕ → List ℕ → List ℕ → Type 0 where
+pub data Given (kind : EdgeKind) (m : Mode) (K : ℕ) (keys₀ counts₀ : List ℕ) : List (List ℕ) → List (Result Addition AddError) → ℕ → List ℕ → List ℕ → Type 0 where
   none : Given kind m K keys₀ counts₀ [] [] 0 keys₀ counts₀
-  next : {ls : List (List ℕ)} {rs : List (Result Addition AddError)} {n : ℕ} {keys counts : List ℕ}
-      → Given kind m K keys₀ counts₀ ls rs n keys counts
-      → (l : List ℕ) {r : Result Addition AddError} {keys' counts' : List ℕ}
-      → Adds r keys' counts' (add_label (kind_of kind) (rule_of m) K n keys counts l)
+  next : {ls : List (List ℕ)} {rs : List (Result Addition AddError)} {n : ℕ} {keys counts : List ℕ} → Given kind m K keys₀ counts₀ ls rs n keys counts
+      → (l : List ℕ) {r : Result Addition AddError} {keys' counts' : List ℕ} → Adds r keys' counts' (add_label (kind_of kind) (rule_of m) K n keys counts l)
       → Given kind m K keys₀ counts₀ (l ∷ ls) (r ∷ rs) (stored_after n (add_answer r)) keys' counts'
