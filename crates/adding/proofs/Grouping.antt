@@ -5,7 +5,7 @@ use mathlib.Core.List.{List, [], ◌∷◌, ◌++◌}
 use Prim.Native.Nat.{ℕ, ◌+◌, ◌-◌, ◌*◌, ◌/◌, ◌≤◌, ◌<◌}
 use native.Mathlib.Omega.{arith}
 use lib.Dec.{ltb, eqb}
-use lib.ListN.{length, get_or, set, length-set}
+use lib.ListN.{length, get_or, set}
 use lib.Seq.{get_or-set_same, set-set}
 use borrow.Author.Tests.{ltb-true, lt-ltb, eqb-true, eqb-false}
 use Rattle.state.specs.Counted.{Kind}
@@ -17,30 +17,23 @@ use Rattle.graph.proofs.Rank.{stored_nil}
 use Rattle.graph.proofs.Fit.{fit_nil}
 use Rattle.keysort.specs.Rows.{rows, key_at, row_at}
 use Rattle.adding.specs.Batch.{counted_by, has_key, Grouped}
-use Rattle.adding.specs.Says.{Rowed, Listed}
-use Rattle.adding.proofs.Rowing.{put_key, put_long, put_other, put_key_lem, rows_next}
+use Rattle.adding.specs.Says.{put_key, Listed}
+use Rattle.adding.proofs.Rowing.{put_other, put_key_lem, rows_next}
 use Rattle.adding.proofs.Vertices.{grouped_same, grouped_new}
 
 -- After t rows; the last vertex is of the last row.
-pub record Grouping (κ : Kind) (q : ℕ) (notes places offsets keys₀ places₀ counts₀ : List ℕ) (t u : ℕ) (keys new-places counts : List ℕ) :
-    Type 0 where
+pub record Grouping (κ : Kind) (q : ℕ) (notes places offsets keys₀ : List ℕ) (t u : ℕ) (keys new-places counts : List ℕ) : Type 0 where
   pub few : u ≤ t
-  pub long_keys : length keys ≡ length keys₀
-  pub long_places : length new-places ≡ length places₀
-  pub long_counts : length counts ≡ length counts₀
   pub kept : (i : ℕ) → 2 * t ≤ i → get_or keys i 0 ≡ get_or keys₀ i 0
   pub last : 0 < u → key_at keys (u - 1) ≡ key_at keys₀ (t - 1)
   pub grouped : (rule : Rule) (K : ℕ) (label ks : List ℕ) → Listed rule K label ks q notes places offsets keys₀
       → Grouped κ rule K label ks (rows t keys₀ offsets) u keys new-places counts
 
-module _ {κ : Kind} {q : ℕ} {notes places offsets keys₀ places₀ counts₀ : List ℕ} (y : Rowed q notes places offsets keys₀ places₀ counts₀) where
-  pub grouping_none : Grouping κ q notes places offsets keys₀ places₀ counts₀ 0 0 keys₀ places₀ counts₀
+module _ {κ : Kind} {q : ℕ} {notes places offsets keys₀ : List ℕ} where
+  pub grouping_none : {new-places counts : List ℕ} → Grouping κ q notes places offsets keys₀ 0 0 keys₀ new-places counts
   unfolding keys_of rows has_key
   grouping_none = record {
     few = omega arith;
-    long_keys = refl;
-    long_places = refl;
-    long_counts = refl;
     kept = λ i h. refl;
     last = λ h. absurd (omega arith);
     grouped = λ rule K label ks l. record {
@@ -53,55 +46,48 @@ module _ {κ : Kind} {q : ℕ} {notes places offsets keys₀ places₀ counts₀
   }
 
   module _ {t u : ℕ} {keys new-places counts : List ℕ}
-      (v : Grouping κ q notes places offsets keys₀ places₀ counts₀ t u keys new-places counts) (h : t < q)
+      (v : Grouping κ q notes places offsets keys₀ t u keys new-places counts) (h : t < q)
+      (key_there : t < length keys₀ / 2) (offset_there : t < length offsets)
       {x : ℕ} (ex : x ≡ key_at keys t) where
     here : x ≡ key_at keys₀ t
     here = ex ∙ ap₂ joined (v.kept (2 * t) (omega arith)) (v.kept (2 * t + 1) (omega arith))
 
     next : rows (t + 1) keys₀ offsets ≡ rows t keys₀ offsets ++ (row_at keys₀ offsets t ∷ [])
-    next = rows_next t keys₀ offsets (omega (arith, y.keys_there)) (omega (arith, y.offsets_there))
+    next = rows_next t keys₀ offsets key_there offset_there
 
     pub grouping_same : ltb 0 u && eqb (key_at keys (u - 1)) x ≡ true
         → {w : ℕ} → w ≡ counted_by κ (get_or notes (get_or offsets t 0) 0) (get_or counts (u - 1) 0)
-        → Grouping κ q notes places offsets keys₀ places₀ counts₀ (t + 1) u keys new-places (set counts (u - 1) w)
-    grouping_same s {w} ew =
+        → u ≤ length keys / 2 → u ≤ length counts → Grouping κ q notes places offsets keys₀ (t + 1) u keys new-places (set counts (u - 1) w)
+    grouping_same s {w} ew lk lc =
         let b = both (ltb 0 u) (eqb (key_at keys (u - 1)) x) s in
         let at : key_at keys (u - 1) ≡ key_at keys₀ t = eqb-true (key_at keys (u - 1)) x b.1 ∙ here in
         let back : t + 1 - 1 ≡ t = omega arith in
         record {
           few = omega (arith, v.few);
-          long_keys = v.long_keys;
-          long_places = v.long_places;
-          long_counts = length-set counts (u - 1) w ∙ v.long_counts;
           kept = λ i a. v.kept i (omega arith);
           last = λ a. rw back at;
           grouped = λ rule K label ks l.
               rw next
               (grouped_same κ rule K label ks (rows t keys₀ offsets) (row_at keys₀ offsets t) u keys new-places counts
-              (v.grouped rule K label ks l) (l.noted t h) (ltb-true 0 u b.0) at
-              (rw v.long_keys (omega (arith, v.few, y.keys_there))) (omega (arith, v.few, v.long_counts, y.room_counts)) ew);
+              (v.grouped rule K label ks l) (l.noted t h) (ltb-true 0 u b.0) at lk lc ew);
         }
 
     pub grouping_new : ltb 0 u && eqb (key_at keys (u - 1)) x ≡ false
         → {keys' : List ℕ} → keys' ≡ put_key keys u x
-        → {w : ℕ} → w ≡ counted_by κ (get_or notes (get_or offsets t 0) 0) (get_or (set counts u 0) (u + 1 - 1) 0)
-        → Grouping κ q notes places offsets keys₀ places₀ counts₀ (t + 1) (u + 1) keys'
-        (set new-places u (get_or places (get_or offsets t 0) 0)) (set (set counts u 0) (u + 1 - 1) w)
-    grouping_new s {keys'} ek {w} ew =
-        let p : ℕ = get_or places (get_or offsets t 0) 0 in
-        let lk : u < length keys / 2 = rw v.long_keys (omega (arith, v.few, y.keys_there)) in
+        → {places' : List ℕ} → places' ≡ set new-places u (get_or places (get_or offsets t 0) 0)
+        → {counts' : List ℕ} → counts' ≡ set counts u 0
+        → {w : ℕ} → w ≡ counted_by κ (get_or notes (get_or offsets t 0) 0) (get_or counts' (u + 1 - 1) 0)
+        → u < length keys / 2 → u < length new-places → u < length counts
+        → Grouping κ q notes places offsets keys₀ (t + 1) (u + 1) keys' places' (set counts' (u + 1 - 1) w)
+    grouping_new s {keys'} ek {places'} ep {counts'} ec {w} ew lk lp lc =
         let back : t + 1 - 1 ≡ t = omega arith in
         let end : u + 1 - 1 ≡ u = omega arith in
-        let lc : u < length counts = omega (arith, v.few, v.long_counts, y.room_counts) in
-        let none : get_or (set counts u 0) (u + 1 - 1) 0 ≡ 0 = rw end (get_or-set_same counts u 0 0 lc) in
-        let both : set (set counts u 0) (u + 1 - 1) w ≡ set counts u w = rw (end, set-set) in
+        let none : get_or counts' (u + 1 - 1) 0 ≡ 0 = rw (ec, end) (get_or-set_same counts u 0 0 lc) in
+        let both : set counts' (u + 1 - 1) w ≡ set counts u w = rw (ec, end, set-set) in
         let differs : 0 < u → eqb (key_at keys (u - 1)) x ≡ false = λ a. rw (lt-ltb 0 u a) at s in
-        rw both
+        rw (ep, both)
         (record {
           few = omega (arith, v.few);
-          long_keys = ap length ek ∙ put_long keys u x ∙ v.long_keys;
-          long_places = length-set new-places u p ∙ v.long_places;
-          long_counts = length-set counts u w ∙ v.long_counts;
           kept = λ i a.
               ap (λ (l : List ℕ). get_or l i 0) ek ∙ put_other keys u x i (omega (arith, v.few)) ∙ v.kept i (omega arith);
           last = λ a. rw (end, back, ek) (put_key_lem keys u x lk ∙ here);
@@ -118,6 +104,5 @@ module _ {κ : Kind} {q : ℕ} {notes places offsets keys₀ places₀ counts₀
                 v.few,
                 l.ascends (t - 1) t (omega arith) h,
               ))
-              (l.below t h) (l.canonical t h) lk (omega (arith, v.few, v.long_places, y.room_places))
-              lc (l.placed t h) (rw none at ew));
+              (l.below t h) (l.canonical t h) lk lp lc (l.placed t h) (rw none at ew));
         })

@@ -108,16 +108,10 @@ module _ {rule : Rule} {K : ℕ} {label ks : List ℕ} {q : ℕ} {notes places k
     placed = λ i h. let f = row_fresh i h in g.looked.placed (get_or offsets i 0) f.below ∙ ap (rank ks) (sym f.kmer);
   }
 
-  pub rowed : {new-places new-counts : List ℕ} → windows K label ≤ length notes → windows K label ≤ length places
-      → windows K label ≤ length new-places → windows K label ≤ length new-counts → Rowed q notes places offsets keys new-places new-counts
-  rowed hn hp room_places room_counts = record {
-    few = omega (arith, few, given.low, given.short);
-    keys_there = keys_there;
-    offsets_there = offsets_there;
-    room_places = omega (arith, few);
-    room_counts = omega (arith, few);
-    note_there = λ i h. let l = (row_fresh i h).below in omega arith;
-    place_there = λ i h. let l = (row_fresh i h).below in omega arith;
+  pub rowed : {room : ℕ} → windows K label ≤ room → Rowed room q notes offsets
+  rowed enough = record {
+    few = omega (arith, few);
+    there = λ i h. let l = (row_fresh i h).below in omega arith;
     coded = λ i h.
         let l = (row_fresh i h).below in
         rw (listed.noted i h) (new_coded rule K label given.bases (get_or offsets i 0) (omega arith));

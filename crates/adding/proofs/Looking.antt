@@ -2,19 +2,19 @@
 use mathlib.Core.Path.{◌≡◌, refl, sym, ap, ◌∙◌}
 use mathlib.Core.Bool.{true, false}
 use mathlib.Core.List.{List, [], ◌∷◌, ◌++◌, append-nil}
-use Prim.Native.Nat.{ℕ, suc, ◌+◌, ◌≤◌, ◌<◌}
+use Prim.Native.Nat.{ℕ, suc, ◌+◌, ◌/◌, ◌≤◌, ◌<◌}
 use native.Mathlib.Numerals.{add-one}
 use native.Mathlib.Omega.{arith}
-use lib.ListN.{length, set, length-append, length-set}
+use lib.ListN.{length, set, length-append}
 use Rattle.std.specs.Prelude.{Option, Some, None}
 use Rattle.kmer.specs.Says.{value_of}
-use Rattle.graph.specs.Table.{keys_of, rank, stored}
-use Rattle.graph.specs.Sightings.{Rule, windows}
+use Rattle.graph.specs.Table.{rank, stored}
+use Rattle.graph.specs.Sightings.{Rule}
 use Rattle.keysort.specs.Rows.{rows}
 use Rattle.adding.specs.Batch.{kmer_at, code_at, note_at, new_rows, Looked, Gathers}
-use Rattle.adding.specs.Says.{Spare, Sees, SeesBefore}
+use Rattle.adding.specs.Says.{put_key, Sees, SeesBefore}
 use Rattle.adding.specs.declared.Seen.{Seen}
-use Rattle.adding.proofs.Rowing.{set_more, put_key, put_long, rows_put}
+use Rattle.adding.proofs.Rowing.{set_more, rows_put}
 use Rattle.adding.proofs.Finding.{Finds}
 
 module _ (K : ℕ) (label ks : List ℕ) (o : ℕ) where
@@ -35,30 +35,17 @@ module _ (K : ℕ) (label ks : List ℕ) (o : ℕ) where
   }
 
 -- After o windows, of which the last one is given.
-pub record Looking (rule : Rule) (K : ℕ) (label ks notes₀ places₀ keys₀ offsets₀ : List ℕ) (o q : ℕ) (last : Option Seen) (notes places new-keys offsets : List ℕ) :
-    Type 0 where
+pub record Looking (rule : Rule) (K : ℕ) (label ks : List ℕ) (o q : ℕ) (last : Option Seen) (notes places new-keys offsets : List ℕ) : Type 0 where
   pub few : q ≤ o
   pub previous : SeesBefore K label o last
-  pub long_notes : length notes ≡ length notes₀
-  pub long_places : length places ≡ length places₀
-  pub long_keys : length new-keys ≡ length keys₀
-  pub long_offsets : length offsets ≡ length offsets₀
   pub gathers : Gathers rule K label ks o q notes places new-keys offsets
 
-module _ (rule : Rule) {K : ℕ} {label : List ℕ} {n : ℕ} {keys notes₀ places₀ keys₀ offsets₀ : List ℕ}
-    (y : Spare K label n keys notes₀ places₀ keys₀ offsets₀) where
-  abbrev ks : List ℕ
-  ks = keys_of n keys
-
-  pub looking_none : Looking rule K label ks notes₀ places₀ keys₀ offsets₀ 0 0 None notes₀ places₀ keys₀ offsets₀
+module _ (rule : Rule) {K : ℕ} {label : List ℕ} (ks : List ℕ) where
+  pub looking_none : {notes places new-keys offsets : List ℕ} → Looking rule K label ks 0 0 None notes places new-keys offsets
   unfolding new_rows rows
   looking_none = record {
     few = omega arith;
     previous = refl;
-    long_notes = refl;
-    long_places = refl;
-    long_keys = refl;
-    long_offsets = refl;
     gathers = record {
       looked = record { noted = λ i h. absurd (omega arith); placed = λ i h. absurd (omega arith) };
       number = refl;
@@ -67,10 +54,10 @@ module _ (rule : Rule) {K : ℕ} {label : List ℕ} {n : ℕ} {keys notes₀ pla
   }
 
   module _ {o q : ℕ} {z : Option Seen} {notes places new-keys offsets : List ℕ}
-      (v : Looking rule K label ks notes₀ places₀ keys₀ offsets₀ o q z notes places new-keys offsets) (h : o < windows K label)
+      (v : Looking rule K label ks o q z notes places new-keys offsets) (note_there : o < length notes) (place_there : o < length places)
       {x : Seen} (sx : Sees K label o x) {code i : ℕ} (ec : code ≡ code_at rule K label o) where
     pub looking_known : Finds ks (value_of x.kmer) i true
-        → Looking rule K label ks notes₀ places₀ keys₀ offsets₀ (o + 1) q (Some x) (set notes o code) (set places o i) new-keys offsets
+        → Looking rule K label ks (o + 1) q (Some x) (set notes o code) (set places o i) new-keys offsets
     looking_known f =
         let s : stored ks (kmer_at K label o) ≡ true = rw sx.kmer at f.is in
         let r : new_rows K label ks (o + 1) ≡ new_rows K label ks o = rw (add-one o) (rows_known K label ks o s) in
@@ -78,22 +65,18 @@ module _ (rule : Rule) {K : ℕ} {label : List ℕ} {n : ℕ} {keys notes₀ pla
         record {
           few = omega (arith, v.few);
           previous = (o, (add-one o, sx));
-          long_notes = length-set notes o code ∙ v.long_notes;
-          long_places = length-set places o i ∙ v.long_places;
-          long_keys = v.long_keys;
-          long_offsets = v.long_offsets;
           gathers = record {
-            looked = looked_next K label ks o rule g.looked (omega (arith, v.long_notes, y.room_notes))
-                (omega (arith, v.long_places, y.room_places)) (rw s (omega arith)) (rw sx.kmer at f.place);
+            looked = looked_next K label ks o rule g.looked note_there place_there (rw s (omega arith)) (rw sx.kmer at f.place);
             number = g.number ∙ sym (ap length r);
             new = g.new ∙ sym r;
           };
         }
 
-    pub looking_new : Finds ks (value_of x.kmer) i false → {new-keys' : List ℕ} → new-keys' ≡ put_key new-keys q (value_of x.kmer)
-        → Looking rule K label ks notes₀ places₀ keys₀ offsets₀ (o + 1) (q + 1) (Some x) (set notes o (code + 64)) (set places o i) new-keys'
+    pub looking_new : Finds ks (value_of x.kmer) i false → q < length new-keys / 2 → q < length offsets
+        → {new-keys' : List ℕ} → new-keys' ≡ put_key new-keys q (value_of x.kmer)
+        → Looking rule K label ks (o + 1) (q + 1) (Some x) (set notes o (code + 64)) (set places o i) new-keys'
         (set offsets q o)
-    looking_new f {new-keys'} ek =
+    looking_new f key_there offset_there {new-keys'} ek =
         let s : stored ks (kmer_at K label o) ≡ false = rw sx.kmer at f.is in
         let r : new_rows K label ks (o + 1) ≡ new_rows K label ks o ++ (record { key = kmer_at K label o; number = o } ∷ []) =
         rw (add-one o) (rows_new K label ks o s) in
@@ -101,17 +84,11 @@ module _ (rule : Rule) {K : ℕ} {label : List ℕ} {n : ℕ} {keys notes₀ pla
         record {
           few = omega (arith, v.few);
           previous = (o, (add-one o, sx));
-          long_notes = length-set notes o (code + 64) ∙ v.long_notes;
-          long_places = length-set places o i ∙ v.long_places;
-          long_keys = ap length ek ∙ put_long new-keys q (value_of x.kmer) ∙ v.long_keys;
-          long_offsets = length-set offsets q o ∙ v.long_offsets;
           gathers = record {
-            looked = looked_next K label ks o rule g.looked (omega (arith, v.long_notes, y.room_notes))
-                (omega (arith, v.long_places, y.room_places)) (rw s (omega arith)) (rw sx.kmer at f.place);
+            looked = looked_next K label ks o rule g.looked note_there place_there (rw s (omega arith)) (rw sx.kmer at f.place);
             number = rw (r, length-append) (omega (arith, g.number));
             new = rw (ek, r)
-                (rows_put new-keys q (value_of x.kmer) (rw v.long_keys (omega (arith, v.few, y.room_keys))) offsets o
-                (omega (arith, v.few, v.long_offsets, y.room_offsets))
+                (rows_put new-keys q (value_of x.kmer) key_there offsets o offset_there
                 ∙ rw (g.new, sx.kmer));
           };
         }

@@ -33,12 +33,9 @@ module _ {rule : Rule} {K : ℕ} {label : List ℕ} {n : ℕ} {keys counts : Lis
     pub looked_all : Looked rule K label ks m notes places
     looked_all = rw e l
 
-    pub known : windows K label ≤ length notes → windows K label ≤ length places → Known m notes places counts
-    known hn hp = rw e
+    pub known : Known m notes places counts
+    known = rw e
         (record {
-          few = omega (arith, a.given.low, a.given.short);
-          notes_there = hn;
-          places_there = hp;
           coded = λ i h low. rw (known_note rule K label ks i (l.noted i h) low).1 (code_coded rule K label a.given.bases i (omega arith));
           counter_there = place_lt;
         })

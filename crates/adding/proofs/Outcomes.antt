@@ -1,4 +1,5 @@
--- How adding a label ends before its k-mers are stored: the refusals 1, 5, 4, a label shorter than K, 3. Assumes nothing.
+-- How adding a label ends before its k-mers are stored: the refusals 1, 5, 4, a label shorter than K, 3. Assumes
+-- nothing.
 use mathlib.Core.Path.{◌≡◌, refl, sym, ap, ◌∙◌}
 use mathlib.Core.List.{List, []}
 use Prim.Native.Nat.{ℕ, ◌≤◌, ◌<◌}

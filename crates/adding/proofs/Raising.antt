@@ -96,31 +96,25 @@ module _ (κ : Kind) (rule : Rule) (K : ℕ) (label : List ℕ) where
 
 -- After o windows.
 pub record Raising (κ : Kind) (m : ℕ) (notes places counts₀ : List ℕ) (o : ℕ) (counts : List ℕ) : Type 0 where
-  pub long : length counts ≡ length counts₀
   pub raised : (rule : Rule) (K : ℕ) (label ks : List ℕ) → fit_from K 0 ks ≡ true → Looked rule K label ks m notes places → Raised κ rule K label ks o counts₀ counts
 
 module _ {κ : Kind} {m : ℕ} {notes places counts₀ : List ℕ} where
   pub raising_none : Raising κ m notes places counts₀ 0 counts₀
   unfolding tally
   raising_none = record {
-    long = refl;
     raised = λ rule K label ks f l. record { long = refl; tallied = λ g b. refl; rest = refl };
   }
 
-  module _ (y : Known m notes places counts₀) {o : ℕ} {counts : List ℕ} (v : Raising κ m notes places counts₀ o counts) (h : o < m) where
-    counter_now : get_or notes o 0 < 64 → get_or places o 0 < length counts
-    counter_now s = rw v.long (y.counter_there o h s)
-
+  module _ (y : Known m notes places counts₀) {o : ℕ} {counts : List ℕ} (long : length counts ≡ length counts₀)
+      (v : Raising κ m notes places counts₀ o counts) (h : o < m) where
     pub raising_known : get_or notes o 0 < 64 → {w : ℕ} → w ≡ counted_by κ (get_or notes o 0) (get_or counts (get_or places o 0) 0)
         → Raising κ m notes places counts₀ (o + 1) (set counts (get_or places o 0) w)
     raising_known s {w} e = record {
-      long = length-set counts (get_or places o 0) w ∙ v.long;
       raised = λ rule K label ks f l.
-          rw (add-one o, e) (raised_known κ rule K label ks f m notes places l o h (v.raised rule K label ks f l) s (counter_now s));
+          rw (add-one o, e) (raised_known κ rule K label ks f m notes places l o h (v.raised rule K label ks f l) s (rw long (y.counter_there o h s)));
     }
 
     pub raising_new : 64 ≤ get_or notes o 0 → Raising κ m notes places counts₀ (o + 1) counts
     raising_new s = record {
-      long = v.long;
       raised = λ rule K label ks f l. rw (add-one o) (raised_new κ rule K label ks f m notes places l o h (v.raised rule K label ks f l) s);
     }

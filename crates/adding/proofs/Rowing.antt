@@ -12,6 +12,7 @@ use Rattle.kmer.specs.Kmer.{low, high, joined}
 use Rattle.kmer.proofs.Wide.{joined_of}
 use Rattle.graph.specs.Table.{keys_of}
 use Rattle.keysort.specs.Rows.{Row, rows, key_at, row_at}
+use Rattle.adding.specs.Says.{put_key}
 
 -- One cell more that holds what it should.
 pub set_more : (l : List ℕ) (f : ℕ → ℕ) (m v : ℕ) → m < length l → ((i : ℕ) → i < m → get_or l i 0 ≡ f i) → v ≡ f m
@@ -19,10 +20,6 @@ pub set_more : (l : List ℕ) (f : ℕ → ℕ) (m v : ℕ) → m < length l →
 set_more l f m v h below e i b =
     ⊎_elim (λ s. get_or-set_other l m i v 0 (λ z. omega arith) ∙ below i s)
     (λ s. let z : i ≡ m = omega arith in rw z (get_or-set_same l m v 0 h ∙ e)) (lt_or_ge i m)
-
--- A k-mer's words put at a place.
-abbrev pub put_key : List ℕ → ℕ → ℕ → List ℕ
-put_key keys q x = set (set keys (2 * q) (low x)) (2 * q + 1) (high x)
 
 rows_snoc : (q : ℕ) (keys numbers : List ℕ) → q < length keys / 2 → q < length numbers
     → rows (suc q) keys numbers ≡ rows q keys numbers ++ (row_at keys numbers q ∷ [])

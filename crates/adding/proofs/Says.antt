@@ -1,5 +1,5 @@
--- The definitions of what adding answers tell its cases apart, so its contracts allow one result and one content of each slice.
--- Assumes nothing.
+-- The definitions of what adding answers tell its cases apart, so its contracts allow one result and one content of
+-- each slice. Assumes nothing.
 use mathlib.Core.Path.{◌≡◌, refl, sym, ap, ◌∙◌}
 use mathlib.Core.Bool.{cond}
 use mathlib.Core.List.{List, [], ◌∷◌}

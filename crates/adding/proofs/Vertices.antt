@@ -19,7 +19,8 @@ use Rattle.graph.proofs.Lookup.{at_stored, key_inj}
 use Rattle.table.proofs.Keys.{key_is}
 use Rattle.keysort.specs.Rows.{Row, key_at}
 use Rattle.adding.specs.Batch.{counted_by, has_key, code_at, tally_rows, Grouped}
-use Rattle.adding.proofs.Rowing.{set_more, put_key, keys_put}
+use Rattle.adding.specs.Says.{put_key}
+use Rattle.adding.proofs.Rowing.{set_more, keys_put}
 use Rattle.adding.proofs.Above.{above_new, above_fit, above_stored}
 use Rattle.adding.proofs.Tallies.{or_absorbs, has_snoc, marked_counts, row_counted, row_passed, tally_none}
 

@@ -1,9 +1,9 @@
 -- What adding answers in document 01's numbers, and what its parts say. Assumes nothing.
-use Rattle.std.specs.Prelude.{ℕ, suc, ◌+◌, ◌/◌, ◌%◌, ◌^◌, ◌≤◌, ◌<◌, ◌≡◌, Bool, true, false, cond, List, [], ◌∷◌, eqb, length, get_or}
-use Rattle.std.specs.Prelude.{Option, Some, None, Result, Ok, Err}
+use Rattle.std.specs.Prelude.{ℕ, suc, ◌+◌, ◌*◌, ◌/◌, ◌%◌, ◌^◌, ◌≤◌, ◌<◌, ◌≡◌, Bool, true, false, cond, eqb}
+use Rattle.std.specs.Prelude.{List, [], ◌∷◌, length, get_or, set, Option, Some, None, Result, Ok, Err}
 use Rattle.std.specs.Bool.{beq}
 use Rattle.dna.specs.Answer.{Answer, gives, refuses}
-use Rattle.kmer.specs.Kmer.{ok_k, canon, is_canon}
+use Rattle.kmer.specs.Kmer.{low, high, ok_k, canon, is_canon}
 use Rattle.kmer.specs.Says.{value_of}
 use Rattle.kmer.proofs.Windows.{Bases}
 use Rattle.state.specs.Counted.{Kind}
@@ -56,7 +56,8 @@ pub record Adds (r : Result Addition AddError) (keys counts : List ℕ) (a : Add
   pub keys_after : keys ≡ a.keys
   pub counts_after : counts ≡ a.counts
 
--- Many labels: how many were added, the number stored and the last answer; or a refusal before the first, with n stored.
+-- Many labels: how many were added, the number stored and the last answer; or a refusal before the first, with n
+-- stored.
 abbrev pub labels_say : ℕ → Result Additions OutOfText → Several → Type 0
 labels_say n (Ok a) s = (a.labels ≡ s.labels) × (a.stored ≡ s.stored) × (add_answer a.last ≡ s.answer)
 labels_say n (Err e) s = (0 ≡ s.labels) × (n ≡ s.stored) × (refuses 12 [] ≡ s.answer)
@@ -89,24 +90,20 @@ pub record Addable (K : ℕ) (label : List ℕ) (n : ℕ) (keys counts : List �
   pub given : Given K label
   pub fits : fit K n keys counts ≡ true
 
--- A label and the slice with a fit table's keys; beside it slices with room for each window.
-pub record Spare (K : ℕ) (label : List ℕ) (n : ℕ) (keys notes places new-keys offsets : List ℕ) : Type 0 where
+-- A label, and the slice with a fit table's keys, among which its k-mers are sought.
+pub record Sought (K : ℕ) (label : List ℕ) (n : ℕ) (keys : List ℕ) : Type 0 where
   pub given : Given K label
   pub fits : fit_from K 0 (keys_of n keys) ≡ true
   pub within : n ≤ length keys / 2
   pub few : n ≤ 65536
-  pub room_notes : windows K label ≤ length notes
-  pub room_places : windows K label ≤ length places
-  pub room_keys : windows K label ≤ length new-keys / 2
-  pub room_offsets : windows K label ≤ length offsets
 
 -- Window i of a label.
 pub record Sees (K : ℕ) (label : List ℕ) (i : ℕ) (r : Seen) : Type 0 where
   pub kmer : value_of r.kmer ≡ canon K (window K label i)
   pub straight : r.straight ≡ is_canon K (window K label i)
 
--- A window's predecessor is left uncounted, by what is seen of the window before and of it: both have one k-mer, and by document
--- 02's rule they show it on different strands.
+-- A window's predecessor is left uncounted, by what is seen of the window before and of it: both have one k-mer, and
+-- by document 02's rule they show it on different strands.
 abbrev pub skipped : Mode → Seen → Seen → Bool
 skipped mode.SameCanonical x y = eqb (value_of x.kmer) (value_of y.kmer)
 skipped mode.Reversed x y = cond (beq x.straight y.straight) false (eqb (value_of x.kmer) (value_of y.kmer))
@@ -128,39 +125,27 @@ pub record Coded (note : ℕ) : Type 0 where
   pub back : note / 8 % 8 ≤ 5
   pub back_known : note / 8 % 8 ≡ 4 → ⊥
 
--- Slices with q rows of new k-mers, whose offsets lead to notes and places, and room for as many vertices.
-pub record Rowed (q : ℕ) (notes places offsets new-keys new-places new-counts : List ℕ) : Type 0 where
-  pub few : q ≤ 4096
-  pub keys_there : q ≤ length new-keys / 2
-  pub offsets_there : q ≤ length offsets
-  pub room_places : q ≤ length new-places
-  pub room_counts : q ≤ length new-counts
-  pub note_there : (i : ℕ) → i < q → get_or offsets i 0 < length notes
-  pub place_there : (i : ℕ) → i < q → get_or offsets i 0 < length places
+-- The two words of a k-mer put among those of others.
+abbrev pub put_key : List ℕ → ℕ → ℕ → List ℕ
+put_key keys at x = set (set keys (2 * at) (low x)) (2 * at + 1) (high x)
+
+-- q new k-mers, where there is room for so many windows: their offsets lead to notes.
+pub record Rowed (room q : ℕ) (notes offsets : List ℕ) : Type 0 where
+  pub few : q ≤ room
+  pub there : (i : ℕ) → i < q → get_or offsets i 0 < room
   pub coded : (i : ℕ) → i < q → Coded (get_or notes (get_or offsets i 0) 0)
 
--- The rows are of windows of a label and in the order of their k-mers, each with its window's note and the place of its k-mer.
-pub record Listed (rule : Rule) (K : ℕ) (label ks : List ℕ) (q : ℕ) (notes places offsets new-keys : List ℕ) : Type 0 where
+-- The rows are of windows of a label and in the order of their k-mers, each with its window's note and the place of
+-- its k-mer.
+pub record Listed (rule : Rule) (K : ℕ) (label ks : List ℕ) (q : ℕ) (notes places offsets new-keys : List ℕ) :
+    Type 0 where
   pub ascends : (i j : ℕ) → i ≤ j → j < q → key_at new-keys i ≤ key_at new-keys j
   pub below : (i : ℕ) → i < q → key_at new-keys i < 4 ^ K
   pub canonical : (i : ℕ) → i < q → is_canon K (key_at new-keys i) ≡ true
   pub noted : (i : ℕ) → i < q → get_or notes (get_or offsets i 0) 0 ≡ code_at rule K label (get_or offsets i 0) + 64
   pub placed : (i : ℕ) → i < q → get_or places (get_or offsets i 0) 0 ≡ rank ks (key_at new-keys i)
 
--- Slices with m notes and places, where a note below 64 has two neighbours and the place of a counter.
+-- m notes and places: a note below 64 has two neighbours and the place of a counter.
 pub record Known (m : ℕ) (notes places counts : List ℕ) : Type 0 where
-  pub few : m ≤ 4096
-  pub notes_there : m ≤ length notes
-  pub places_there : m ≤ length places
   pub coded : (i : ℕ) → i < m → get_or notes i 0 < 64 → Coded (get_or notes i 0)
   pub counter_there : (i : ℕ) → i < m → get_or notes i 0 < 64 → get_or places i 0 < length counts
-
--- A label to be added, and slices with room for each of its windows.
-pub record Roomy (K : ℕ) (label : List ℕ) (n : ℕ) (keys counts notes places offsets new-keys new-places new-counts : List ℕ) : Type 0 where
-  pub addable : Addable K label n keys counts
-  pub room_notes : windows K label ≤ length notes
-  pub room_places : windows K label ≤ length places
-  pub room_offsets : windows K label ≤ length offsets
-  pub room_keys : windows K label ≤ length new-keys / 2
-  pub room_new_places : windows K label ≤ length new-places
-  pub room_new_counts : windows K label ≤ length new-counts

@@ -6,76 +6,68 @@ ghost use Rattle.graph.specs.Adding.{add_label};
 ghost use Rattle.graph.specs.Several.{untried, add_each, add_labels};
 ghost use Rattle.adding.specs.Says.{rule_of, Ready, Adds, AddsLabels};
 
-use super::{AddError, Addition, Additions, Mode, OutOfText, label};
+use super::{AddError, Addition, Additions, Mode, OutOfText, Settings};
 use state::EdgeKind;
 
-// A label added to a table that is known to be fit, or not known yet.
-fn add_next(
-    is_fit: bool,
-    kind: EdgeKind,
-    mode: Mode,
-    k: usize,
-    n: usize,
-    keys: &mut [u64],
-    counts: &mut [u32],
-    label: &[u8],
-) -> Result<Addition, AddError>
-    requires { is_fit ≡ true → Ready (kind_of kind) k n keys.old counts.old }
-    ensures { Adds result keys.new counts.new (add_label (kind_of kind) (rule_of mode) k n keys.old counts.old label.now) }
-{
-    if is_fit {
-        label::add_to_fit(kind, mode, k, n, keys, counts, label)
-    } else {
-        label::add_label(kind, mode, k, n, keys, counts, label)
+impl Settings {
+    // A label added to a table that is known to be fit, or not known yet.
+    fn add_next(
+        self,
+        is_fit: bool,
+        n: usize,
+        keys: &mut [u64],
+        counts: &mut [u32],
+        label: &[u8],
+    ) -> Result<Addition, AddError>
+        requires { is_fit ≡ true → Ready (kind_of self.kind) self.k n keys.old counts.old }
+        ensures { Adds result keys.new counts.new
+            (add_label (kind_of self.kind) (rule_of self.mode) self.k n keys.old counts.old label.now) }
+    {
+        if is_fit {
+            self.add_to_fit(n, keys, counts, label)
+        } else {
+            self.add(n, keys, counts, label)
+        }
     }
-}
 
-// The labels of an index that lies within its text. A label that was added leaves a fit table.
-fn add_each(
-    kind: EdgeKind,
-    mode: Mode,
-    k: usize,
-    n: usize,
-    keys: &mut [u64],
-    counts: &mut [u32],
-    text: &[u8],
-    starts: &[u32],
-    lengths: &[u32],
-    count: usize,
-) -> Additions
-    requires { within text.now count starts.now lengths.now ≡ true }
-    ensures { AddsLabels n (Ok result) keys.new counts.new (add_each (kind_of kind) (rule_of mode) k (untried n keys.old counts.old) (listed count text.now starts.now lengths.now)) }
-{
-    let mut last = Addition {
-        edges: 0,
-        stored: n,
-    };
-    for i in 0..count {
-        let start = starts[i] as usize;
-        let end = start + lengths[i] as usize;
-        let answer = add_next(
-            0 < i,
-            kind,
-            mode,
-            k,
-            last.stored,
-            keys,
-            counts,
-            &text[start..end],
-        );
-        let Ok(added) = answer else {
-            return Additions {
-                labels: i,
-                stored: last.stored,
-                last: answer,
-            };
+    // The labels of an index that lies within its text. A label that was added leaves a fit table.
+    fn add_each(
+        self,
+        n: usize,
+        keys: &mut [u64],
+        counts: &mut [u32],
+        text: &[u8],
+        starts: &[u32],
+        lengths: &[u32],
+        count: usize,
+    ) -> Additions
+        requires { within text.now count starts.now lengths.now ≡ true }
+        ensures { AddsLabels n (Ok result) keys.new counts.new
+            (add_each (kind_of self.kind) (rule_of self.mode) self.k (untried n keys.old counts.old)
+            (listed count text.now starts.now lengths.now)) }
+    {
+        let mut last = Addition {
+            edges: 0,
+            stored: n,
         };
-        last = added;
-    }
-    Additions {
-        labels: count,
-        stored: last.stored,
-        last: Ok(last),
+        for i in 0..count {
+            let start = starts[i] as usize;
+            let end = start + lengths[i] as usize;
+            let answer = self.add_next(0 < i, last.stored, keys, counts, &text[start..end]);
+            let Ok(added) = answer else {
+                return Additions {
+                    labels: i,
+                    stored: last.stored,
+                    last: answer,
+                };
+            };
+            last = added;
+        }
+        Additions {
+            labels: count,
+            stored: last.stored,
+            last: Ok(last),
+        }
     }
 }
 
@@ -92,10 +84,11 @@ pub fn add_labels(
     lengths: &[u32],
     count: usize,
 ) -> Result<Additions, OutOfText>
-    ensures { AddsLabels n result keys.new counts.new (add_labels (kind_of kind) (rule_of mode) k n keys.old counts.old text.now starts.now lengths.now count) }
+    ensures { AddsLabels n result keys.new counts.new
+        (add_labels (kind_of kind) (rule_of mode) k n keys.old counts.old text.now starts.now lengths.now count) }
 {
     if !label_index::lie_within(text, starts, lengths, count) {
         return Err(OutOfText);
     }
-    Ok(add_each(kind, mode, k, n, keys, counts, text, starts, lengths, count))
+    Ok(Settings { kind, mode, k }.add_each(n, keys, counts, text, starts, lengths, count))
 }

@@ -62,8 +62,8 @@ fn other(code: u8) -> u8
     if code < 4 { 3 - code } else { code }
 }
 
-// Window o's neighbours in one number: seen canonical, its predecessor on Front and its successor on Back; otherwise the
-// successor's complement on Front and the predecessor's complement on Back.
+// Window o's neighbours in one number: seen canonical, its predecessor on Front and its successor on Back; otherwise
+// the successor's complement on Front and the predecessor's complement on Back.
 pub(crate) fn code_of(
     mode: Mode,
     k: usize,

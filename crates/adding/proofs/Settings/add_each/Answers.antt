@@ -2,7 +2,7 @@ use mathlib.Core.Path.{refl, ◌∙◌}
 use native.Mathlib.Omega.{arith}
 use borrow.Author.Rules.{rules}
 use Rattle.adding.proofs.OneByOne.{refused, added_all, entry_there, entry_inside, added_more, added_ends}
-use Rattle.adding.proofs.several.add_each.Goals as goal
+use Rattle.adding.proofs.Settings.add_each.Goals as goal
 
 pub offset_bounds-starts-i : goal.offset_bounds-starts-i
 offset_bounds-starts-i c = let there = (entry_there c.loop-i.invariant c.loop-i-test.true).0 in search rules
