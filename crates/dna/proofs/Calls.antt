@@ -56,6 +56,6 @@ module _ (text slice₀ : List ℕ) where
       (record { answer = rw e; slice = built_all text slice₀ slice n b (omega arith) })
 
 -- A text that has room is written.
-pub writes_over : (text slice₀ : List ℕ) {r : Result ℕ NoRoom} {slice : List ℕ} → Writes r slice (fill 9 text slice₀) → length text ≤ length slice₀
-    → slice ≡ over text slice₀
+pub writes_over : (text slice₀ : List ℕ) {r : Result ℕ NoRoom} {slice : List ℕ} → Writes r slice (fill 9 text slice₀)
+    → length text ≤ length slice₀ → slice ≡ over text slice₀
 writes_over text slice₀ w h = rw (le-ltb (length slice₀) (length text) h) at w.slice

@@ -44,7 +44,8 @@ round s i d hi f x hx = go (dec_lt x i)
         ap (at s) a ∙ f (x - i) (omega arith) ∙ ap (at s) b
 
 module _ (s : List ℕ) (l : ℕ) (w : Least s (length s - 1) l) (long : 0 < length s) where
-  -- From j on the text is smaller than from i on, after k bytes that are alike: none of the k + 1 starts from i on is least.
+  -- From j on the text is smaller than from i on, after k bytes that are alike: none of the k + 1 starts from i on is
+  -- least.
   pub beaten : (i j k : ℕ) → k < length s → ((t : ℕ) → t < k → at s (i + t) ≡ at s (j + t)) → at s (j + k) < at s (i + k) → (t : ℕ) → t ≤ k → i + t ≡ l → ⊥
   beaten i j k hk f h t tk e =
       let hl : i + t < length s = omega (arith, w.within) in
@@ -75,8 +76,8 @@ module _ (s : List ℕ) (l : ℕ) (w : Least s (length s - 1) l) (long : 0 < len
           let b : at s (x % length s + d) ≡ at s (x + d) = rw (mod-add-mod x (length s) d) in
           a ∙ round s i d (omega arith) f (x % length s) h ∙ b
 
--- Two starts i and j, and k bytes from both that are alike: the least start is before i only where it is j, and before j only
--- where it is i.
+-- Two starts i and j, and k bytes from both that are alike: the least start is before i only where it is j, and before
+-- j only where it is i.
 pub record Chase (s : List ℕ) (i j k : ℕ) : Type 0 where
   pub apart : i ≡ j → ⊥
   pub front : least_start s < i → least_start s ≡ j
@@ -90,7 +91,8 @@ chase_turn c = record { apart = λ e. c.apart (sym e); front = c.back; back = c.
 -- From i on the text is the larger: i moves past what was compared, and past j.
 pub chase_skip : (s : List ℕ) (i j k : ℕ) → Chase s i j k → 1 < length s → k < length s → at s (j + k) < at s (i + k)
     → Chase s (max (i + k + 1) (j + 1)) j 0
-chase_skip s i j k c long hk h = record { apart = λ e. omega arith; front = front; back = λ v. absurd (gone v); same = λ t v. absurd (not-suc-le-zero v) }
+chase_skip s i j k c long hk h =
+    record { apart = λ e. omega arith; front = front; back = λ v. absurd (gone v); same = λ t v. absurd (not-suc-le-zero v) }
   where
     lost : (t : ℕ) → t ≤ k → i + t ≡ least_start s → ⊥
     lost = beaten s (least_start s) (least_to_lem s (length s - 1)) (omega arith) i j k hk c.same h
@@ -132,7 +134,8 @@ chase_all s i j k c long ij hj hk = go (dec_lt (least_start s) j)
         (λ t h. rw e (c.same t (omega arith))) (omega arith))
 
 -- Where a start is past the end, or all bytes are alike, the smaller start is least.
-chase_ends : (s : List ℕ) (i j k : ℕ) → Chase s i j k → 1 < length s → i < j → (length s ≤ j) ⊎ (length s ≤ k) → i ≡ least_start s
+chase_ends : (s : List ℕ) (i j k : ℕ) → Chase s i j k → 1 < length s → i < j → (length s ≤ j) ⊎ (length s ≤ k)
+    → i ≡ least_start s
 chase_ends s i j k c long ij (inl h) = (chase_out s j i k (chase_turn c) long h).1
 chase_ends s i j k c long ij (inr h) = go (dec_lt j (length s))
   where
@@ -141,7 +144,8 @@ chase_ends s i j k c long ij (inr h) = go (dec_lt j (length s))
     go (no u) = (chase_out s j i k (chase_turn c) long (omega arith)).1
 
 -- At the loop's end the smaller start is the answer.
-pub chase_min : (s : List ℕ) (i j k : ℕ) → Chase s i j k → 1 < length s → (length s ≤ max i j) ⊎ (length s ≤ k) → min i j ≡ least_start s
+pub chase_min : (s : List ℕ) (i j k : ℕ) → Chase s i j k → 1 < length s → (length s ≤ max i j) ⊎ (length s ≤ k)
+    → min i j ≡ least_start s
 chase_min s i j k c long h = go (dec_lt i j)
   where
     past : (m : ℕ) → max i j ≡ m → (length s ≤ m) ⊎ (length s ≤ k)

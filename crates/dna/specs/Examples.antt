@@ -1,4 +1,5 @@
--- The least start, computed: 0 for lengths 0 and 1, and the smallest where several rotations are least. Assumes nothing.
+-- The least start, computed: 0 for lengths 0 and 1, and the smallest where several rotations are least. Assumes
+-- nothing.
 use Prim.Native.String.{String}
 use Rattle.std.specs.Prelude.{◌≡◌, refl, [], ◌∷◌, map}
 use Rattle.dna.specs.Text.{bytes}

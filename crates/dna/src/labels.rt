@@ -48,8 +48,8 @@ pub fn minimal_rotation(label: &[u8], out: &mut [u8]) -> Result<usize, NoRoom>
     Ok(n)
 }
 
-// The smallest start whose rotation is least: two starts are compared byte by byte, and where they differ the larger one and
-// all starts that the comparison passed are out.
+// The smallest start whose rotation is least: two starts are compared byte by byte, and where they differ the larger
+// one and all starts that the comparison passed are out.
 pub fn least_rotation_start(s: &[u8]) -> usize
     ensures { result ≡ least_start s.now }
 {

@@ -94,8 +94,8 @@ impl Base {
     }
 }
 
-// The letters are among the 64 bytes from 64 on, each case at the same places of its 32: the word has a bit set at the places of
-// A, C, G, T and U.
+// The letters are among the 64 bytes from 64 on, each case at the same places of its 32: the word has a bit set at the
+// places of A, C, G, T and U.
 pub fn is_dna_ascii(byte: u8) -> bool
     ensures { result ≡ is_base byte }
 {

@@ -1,5 +1,5 @@
--- A number below its own last four bases, turned and put first among K, is a canonical k-mer, since they come first in its reverse
--- complement. Assumes nothing.
+-- A number below its own last four bases, turned and put first among K, is a canonical k-mer, since they come first in
+-- its reverse complement. Assumes nothing.
 use mathlib.Core.Path.{◌≡◌, sym, ap, ◌∙◌}
 use mathlib.Core.Bool.{true}
 use Prim.Native.Nat.{ℕ, ◌+◌, ◌-◌, ◌*◌, ◌/◌, ◌%◌, ◌^◌, ◌≤◌, ◌<◌}

@@ -48,8 +48,8 @@ module _ (s : List ℕ) (at : ℕ) where
 
   abbrev eight : List ℕ
   eight =
-      get_or s at 0 ∷ get_or s (at + 1) 0 ∷ get_or s (at + 2) 0 ∷ get_or s (at + 3) 0 ∷ get_or s (at + 4) 0 ∷ get_or s (at + 5) 0
-      ∷ get_or s (at + 6) 0 ∷ get_or s (at + 7) 0 ∷ []
+      get_or s at 0 ∷ get_or s (at + 1) 0 ∷ get_or s (at + 2) 0 ∷ get_or s (at + 3) 0 ∷ get_or s (at + 4) 0
+      ∷ get_or s (at + 5) 0 ∷ get_or s (at + 6) 0 ∷ get_or s (at + 7) 0 ∷ []
 
   eight_is : at + 8 ≤ length s → eight ≡ take 8 (drop at s)
   eight_is h =
@@ -75,5 +75,6 @@ module _ (s : List ℕ) (at : ℕ) where
   eight_each e (suc (suc (suc (suc (suc (suc (suc (suc i)))))))) = lit< tt
 
   -- The word of the bytes at `at` and behind has them as its bytes.
-  pub loaded : (x : ℕ) → at + 8 ≤ length s → Each s → x ≡ from_be_bytes w64 eight → bytes_in 8 x ≡ take 8 (drop at s)
+  pub loaded : (x : ℕ) → at + 8 ≤ length s → Each s → x ≡ from_be_bytes w64 eight
+      → bytes_in 8 x ≡ take 8 (drop at s)
   loaded x h bytes e = eight_bytes x ∙ be_bytes_8 eight x refl (eight_each bytes) e ∙ eight_is h

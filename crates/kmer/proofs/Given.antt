@@ -1,4 +1,5 @@
--- For callers: what the calls that make a k-mer, and the one that writes its letters, return where nothing is refused. Assumes nothing.
+-- For callers: what the calls that make a k-mer, and the one that writes its letters, return where nothing is refused.
+-- Assumes nothing.
 use mathlib.Core.Path.{◌≡◌, ap, ◌∙◌}
 use mathlib.Core.Bool.{true, false}
 use mathlib.Core.List.{List}
@@ -37,12 +38,13 @@ module _ (K x : ℕ) (ok : ok_k K ≡ true) (h : x < 4 ^ K) where
   kmer_given n t = kmer_told (rw (fits (gives n)) at t)
 
   -- The rolls.
-  pub roll_given : {r : Result Kmer KmerError} (b n : ℕ) → b < 4 → Answers r (on_kmer K x (below 4 b (gives n))) → r ≡ Ok (kmer_of n)
+  pub roll_given : {r : Result Kmer KmerError} (b n : ℕ) → b < 4 → Answers r (on_kmer K x (below 4 b (gives n)))
+      → r ≡ Ok (kmer_of n)
   roll_given b n l t = kmer_given n (simp (lt-ltb b 4 l) at t)
 
   -- `append_ascii`.
-  pub letters_given : (r : Result ℕ KmerError) (out slice : List ℕ) → K ≤ length slice → Spells r out (letters_call K x slice) →
-      (r ≡ Ok K) × (out ≡ over (letters K x) slice)
+  pub letters_given : (r : Result ℕ KmerError) (out slice : List ℕ) → K ≤ length slice
+      → Spells r out (letters_call K x slice) → (r ≡ Ok K) × (out ≡ over (letters K x) slice)
   letters_given r out slice l t =
       let q : ltb (length slice) (length (letters K x)) ≡ false = rw (length_letters K x) (le-ltb (length slice) K l) in
       let e : letters_call K x slice ≡ record { answer = gives (length (letters K x)); slice = over (letters K x) slice } =

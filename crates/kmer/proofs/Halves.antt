@@ -25,7 +25,8 @@ halves_one k lo hi h =
 
 -- ---- two words moved down by s bits
 
--- The two words a₁ * P + a₀ and c₁ * P + c₀, one above the other, as a multiple of P and a rest; a word has W = R * P values.
+-- The two words a₁ * P + a₀ and c₁ * P + c₀, one above the other, as a multiple of P and a rest; a word has W = R * P
+-- values.
 parts : (a₁ a₀ c₁ c₀ P R W : ℕ) → R * P ≡ W → (a₁ * P + a₀) * W + (c₁ * P + c₀) ≡ ((a₀ * R + c₁) + a₁ * W) * P + c₀
 parts a₁ a₀ c₁ c₀ P R W e =
     let l : (a₁ * P + a₀) * W ≡ a₁ * P * W + a₀ * W = add-mul (a₁ * P) a₀ W in

@@ -1,4 +1,5 @@
--- The two strands of a k-mer: its reverse complement, that of a roll, and the canonical form, which is one for both. Assumes nothing.
+-- The two strands of a k-mer: its reverse complement, that of a roll, and the canonical form, which is one for both.
+-- Assumes nothing.
 use mathlib.Core.Path.{◌≡◌, sym, ap, ap₂, ◌∙◌}
 use mathlib.Core.Bool.{true}
 use mathlib.Core.Logic.{⊎_elim}

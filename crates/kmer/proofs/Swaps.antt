@@ -1,5 +1,6 @@
--- A step of the swap network, `((y & e) << k) | ((y >> k) & e)` with e the k low bits of every field of k + k bits, exchanges
--- the halves of each field; two such steps reverse the four base-4 digits of each byte of a word. Assumes nothing.
+-- A step of the swap network, `((y & e) << k) | ((y >> k) & e)` with e the k low bits of every field of k + k bits,
+-- exchanges the halves of each field; two such steps reverse the four base-4 digits of each byte of a word. Assumes
+-- nothing.
 use mathlib.Core.Path.{◌≡◌, refl, sym, ap, ap₂, ◌∙◌, subst}
 use Prim.Native.Nat.{ℕ, zero, suc, ◌+◌, ◌*◌, ◌/◌, ◌%◌, ◌^◌, ◌<◌, ◌≤◌}
 use native.Mathlib.Nat.{mod-lt, mod-one, mod-eq_of_lt, add-mul, mul_assoc, mul_comm, zero-mul}
@@ -98,7 +99,8 @@ swaps_flips d (suc m) x =
 pub flipped : (x : ℕ) → x < 2 ^ 64 → swaps 4 8 (swaps 2 16 x) ≡ flips 4 8 x
 unfolding flips
 flipped x h =
-    let s : swaps 2 16 x ≡ flips 2 16 x = ap (swaps 2 16) (sym (flips_one 32 x ∙ mod-eq_of_lt h)) ∙ swaps_flips 1 16 x in
+    let s : swaps 2 16 x ≡ flips 2 16 x =
+    ap (swaps 2 16) (sym (flips_one 32 x ∙ mod-eq_of_lt h)) ∙ swaps_flips 1 16 x in
     ap (swaps 4 8) s ∙ swaps_flips 2 8 x
 
 -- ---- bytes in reverse order
@@ -120,7 +122,8 @@ turns_flips (suc m) x =
     let t : turned same 4 x < 2 ^ 8 = turned_below 4 x in
     let e : 4 * suc m ≡ 4 + 4 * m = omega arith in
     let p : 2 ^ (8 * m) ≡ 4 ^ (4 * m) = sym (four (4 * m) ∙ ap (λ (n : ℕ). 2 ^ n) (omega arith)) in
-    ap₂ (λ (a b : ℕ). a * 2 ^ (8 * m) + turns m b) (digits_mod (flips 4 m (x / 2 ^ 8)) t) (digits_div (flips 4 m (x / 2 ^ 8)) t)
+    ap₂ (λ (a b : ℕ). a * 2 ^ (8 * m) + turns m b)
+    (digits_mod (flips 4 m (x / 2 ^ 8)) t) (digits_div (flips 4 m (x / 2 ^ 8)) t)
     ∙ ap₂ (λ (a b : ℕ). turned same 4 x * a + b) p (turns_flips m (x / 2 ^ 8))
     ∙ sym (ap (λ (n : ℕ). turned same n x) e ∙ turned_cat same 4 (4 * m) x)
 

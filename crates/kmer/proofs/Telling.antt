@@ -14,8 +14,8 @@ use Rattle.kmer.specs.declared.Kmer.{Kmer}
 use Rattle.kmer.specs.declared.KmerError.{KmerError}
 use Rattle.kmer.specs.declared.KmerError.TheVariants.{UnsupportedK, TooShort, InvalidBase, NoRoom, OutOfRange, NotBelow}
 
--- The refusal with a number and values, by document 01's table: 14 is past the list's end and read as its default, and no call here
--- has another number that is not listed.
+-- The refusal with a number and values, by document 01's table: 14 is past the list's end and read as its default, and
+-- no call here has another number that is not listed.
 abbrev error_in : ℕ → List ℕ → KmerError
 error_in r values =
     get_or
@@ -48,7 +48,9 @@ never_gives NotBelow h = cc
 -- No two refusals are the same answer.
 refusal_one : {A : Type 0} (e f : KmerError) → refusal {A = A} e ≡ refusal f → e ≡ f
 refusal_one {A} e f h =
-    let p : ◌≡◌ {A = Result A KmerError} (Err e) (Err f) = sym (refusal_back (λ (a : A). a) e) ∙ ap (returned (λ (a : A). a)) h ∙ refusal_back (λ (a : A). a) f in cc
+    let g : A → A = λ a. a in
+    let p : ◌≡◌ {A = Result A KmerError} (Err e) (Err f) = sym (refusal_back g e) ∙ ap (returned g) h ∙ refusal_back g f in
+    cc
 
 -- A result is known by what it says.
 pub told : {A : Type 0} (r : Result A KmerError) → r ≡ returned (λ a. a) (says (λ a. a) r)
@@ -59,14 +61,16 @@ told {A} (Err e) = sym (refusal_back (λ (a : A). a) e)
 pub kmer_told : {r : Result Kmer KmerError} {a : Answer ℕ} → Answers r a → r ≡ returned kmer_of a
 kmer_told {r} {a} t = go r t.answer t.kmer
   where
-    go : (r : Result Kmer KmerError) → says value_of r ≡ a → IfOk r (λ x. x ≡ kmer_of (number_in a)) → r ≡ returned kmer_of a
+    go : (r : Result Kmer KmerError) → says value_of r ≡ a → IfOk r (λ x. x ≡ kmer_of (number_in a))
+        → r ≡ returned kmer_of a
     go (Ok x) e k = ap Ok (k ∙ ap (λ (z : Answer ℕ). kmer_of (number_in z)) (sym e)) ∙ ap (returned kmer_of) e
     go (Err d) e k = sym (refusal_back kmer_of d) ∙ ap (returned kmer_of) e
 
 -- ---- so two results of one call are one
 
 -- Where f tells values apart, so does what is said by f.
-says_one : {A B : Type 0} (f : A → B) → ((x y : A) → f x ≡ f y → x ≡ y) → (r s : Result A KmerError) → says f r ≡ says f s → r ≡ s
+says_one : {A B : Type 0} (f : A → B) → ((x y : A) → f x ≡ f y → x ≡ y) → (r s : Result A KmerError)
+    → says f r ≡ says f s → r ≡ s
 says_one f one (Ok x) (Ok y) h = ap Ok (one x y cc)
 says_one f one (Ok x) (Err e) h = never_gives e (sym h)
 says_one f one (Err e) (Ok x) h = never_gives e h
@@ -81,5 +85,6 @@ base_one = says_one code_in code_inj
 pub test_one : (r s : Result Bool KmerError) → says (λ t. t) r ≡ says (λ t. t) s → r ≡ s
 test_one = says_one (λ t. t) (λ s t e. e)
 
-pub spells_one : (r s : Result ℕ KmerError) {out out' : List ℕ} {f : Filled} → Spells r out f → Spells s out' f → (r ≡ s) × (out ≡ out')
+pub spells_one : (r s : Result ℕ KmerError) {out out' : List ℕ} {f : Filled} → Spells r out f → Spells s out' f
+    → (r ≡ s) × (out ≡ out')
 spells_one r s t u = (says_one (λ n. n) (λ m n e. e) r s (t.answer ∙ sym u.answer), t.slice ∙ sym u.slice)

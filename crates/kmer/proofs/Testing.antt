@@ -1,4 +1,5 @@
--- The first byte of a text that is no base, found from the left; there is none exactly in a text of bases. Assumes nothing.
+-- The first byte of a text that is no base, found from the left; there is none exactly in a text of bases. Assumes
+-- nothing.
 use mathlib.Core.Path.{◌≡◌, refl, sym, ap, ◌∙◌}
 use mathlib.Core.Bool.{Bool, true, false, cond}
 use mathlib.Core.List.{List, [], ◌∷◌}

@@ -1,5 +1,5 @@
--- Letters and packing undo each other; the order of numbers is the byte order of their letters; the letters of the reverse complement
--- are the reverse complement of the letters. Assumes nothing.
+-- Letters and packing undo each other; the order of numbers is the byte order of their letters; the letters of the
+-- reverse complement are the reverse complement of the letters. Assumes nothing.
 use mathlib.Core.Path.{◌≡◌, refl, sym, ap, ap₂, ◌∙◌}
 use mathlib.Core.Bool.{true, false}
 use mathlib.Core.Logic.{⊎_elim}

@@ -16,7 +16,8 @@ on_kmer K x answer = with_k K (cond (ltb x (4 ^ K)) answer (refuses 14 []))
 abbrev pub below : {A : Type 0} → ℕ → ℕ → Answer A → Answer A
 below bound i answer = cond (ltb i bound) answer (refuses 10 [])
 
--- The number of a text without a bad byte; else refusal 3 with the first bad byte's place and the byte, as `first_bad` lists them.
+-- The number of a text without a bad byte; else refusal 3 with the first bad byte's place and the byte, as `first_bad`
+-- lists them.
 unfoldable pub pack_bases : List ℕ → List ℕ → Answer ℕ
 pack_bases s [] = gives (packed s)
 pack_bases s (place ∷ byte) = refuses 3 (place ∷ byte)

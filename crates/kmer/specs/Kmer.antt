@@ -59,7 +59,8 @@ letters (suc k) x = letter_of (x / 4 ^ k % 4) ∷ letters k x
 -- The four letters of a byte, top two bits first, first letter in the lowest byte.
 unfoldable pub quad_of : ℕ → ℕ
 quad_of b =
-    letter_of (b / 64 % 4) + 2 ^ 8 * letter_of (b / 16 % 4) + 2 ^ 16 * letter_of (b / 4 % 4) + 2 ^ 24 * letter_of (b % 4)
+    letter_of (b / 64 % 4) + 2 ^ 8 * letter_of (b / 16 % 4) + 2 ^ 16 * letter_of (b / 4 % 4)
+    + 2 ^ 24 * letter_of (b % 4)
 
 -- Opens this file's definitions to a proof that computes.
 unfoldable pub open_kmer : Unit {0}

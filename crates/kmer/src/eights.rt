@@ -29,7 +29,8 @@ fn eight(seq: &[u8], at: usize) -> u64
     ])
 }
 
-// Each letter's code, by the two bits that a base has by itself, moved together: in pairs of letters, in fours, then all.
+// Each letter's code, by the two bits that a base has by itself, moved together: in pairs of letters, in fours, then
+// all.
 fn codes(x: u64) -> u64
     ensures { result ≡ valid_packed (bytes_in 8 x) }
 {
@@ -40,8 +41,8 @@ fn codes(x: u64) -> u64
 }
 
 // 0 only where all eight are bases, in either case. Of a base's bits, 7 and 3 are clear and 6 is set; 4 is set exactly
-// where 2 is and 1 is not, as in T and U; and 4 or 0 is set. Bit 0 of each byte of `good` says whether that is so of it:
-// what must be set is, and nothing is wrong.
+// where 2 is and 1 is not, as in T and U; and 4 or 0 is set. Bit 0 of each byte of `good` says whether that is so of
+// it: what must be set is, and nothing is wrong.
 fn strange(x: u64) -> u64
     ensures { result ≡ 0 → first_bad 0 (bytes_in 8 x) ≡ [] }
 {

@@ -31,7 +31,8 @@ fn byte_of(x: Kmer, j: usize) -> u8
 // Four letters, the first in the lowest byte.
 fn put_quad(quad: u32, at: usize, out: &mut [u8])
     requires { at + 4 ≤ length out.old }
-    ensures { out.new ≡ four_at out.old at (quad % 2 ^ 8) (quad / 2 ^ 8 % 2 ^ 8) (quad / 2 ^ 16 % 2 ^ 8) (quad / 2 ^ 24 % 2 ^ 8) }
+    ensures { out.new ≡ four_at out.old at
+        (quad % 2 ^ 8) (quad / 2 ^ 8 % 2 ^ 8) (quad / 2 ^ 16 % 2 ^ 8) (quad / 2 ^ 24 % 2 ^ 8) }
 {
     let [a, b, c, d] = quad.to_le_bytes();
     out[at] = a;

@@ -6,8 +6,8 @@ ghost use Rattle.kmer.specs.Says.{value_of, says, Answers};
 use super::{Kmer, KmerError, reverse, verdict};
 
 impl Kmer {
-    // The first of two numbers of two words is the smaller one, whatever K is. A derived `Ord` would compare the low words first, and
-    // one by hand needs its laws at words of any size.
+    // The first of two numbers of two words is the smaller one, whatever K is. A derived `Ord` would compare the low
+    // words first, and one by hand needs its laws at words of any size.
     pub fn is_less(self, other: Kmer) -> bool
         ensures { result ≡ ltb (value_of self) (value_of other) }
     {

@@ -3,7 +3,8 @@ ghost use Rattle.std.specs.Prelude.{◌≡◌};
 ghost use Rattle.lemmas.proofs.Tables.{made};
 ghost use Rattle.kmer.specs.Kmer.{quad_of};
 
-// Entry b is the four letters of b, top two bits first, first letter in the lowest byte: `table` has this rule for its contract.
+// Entry b is the four letters of b, top two bits first, first letter in the lowest byte: `table` has this rule for its
+// contract.
 pub const ASCII_QUADS: [u32; 256] = [
     0x4141_4141,
     0x4341_4141,

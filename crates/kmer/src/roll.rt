@@ -19,8 +19,8 @@ fn forward(k: usize, x: Kmer, bits: u64) -> Kmer
     Kmer { words: [low, high] }
 }
 
-// Both words move down a base; the last base of the high word enters the low word at the top, and the new base the word in which the
-// first of K bases stands.
+// Both words move down a base; the last base of the high word enters the low word at the top, and the new base the word
+// in which the first of K bases stands.
 fn backward(k: usize, x: Kmer, bits: u64) -> Kmer
     requires { (1 ≤ k) × (k ≤ 63) × (bits < 4) × (value_of x < 4 ^ k) }
     ensures { result ≡ kmer_of (backward k (value_of x) bits) }

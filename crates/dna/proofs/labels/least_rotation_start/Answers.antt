@@ -15,8 +15,12 @@ returns-then-n-le1 c = short c.args.s.now (search rules)
 
 pub loop-i-preserved-then-a-b-2 : goal.loop-i-preserved-then-a-b-2
 loop-i-preserved-then-a-b-2 c =
-    let h = c.loop-i in
-    (search rules, search rules, rw c.max-i.ensures (chase_skip _ h.i h.j h.k h.invariant.2 (omega arith) (omega (arith, ltb-true)) c.if-a-b-2.true))
+    let h = c.loop-i in (
+      search rules,
+      search rules,
+      rw c.max-i.ensures
+          (chase_skip _ h.i h.j h.k h.invariant.2 (omega arith) (omega (arith, ltb-true)) c.if-a-b-2.true),
+    )
 
 pub loop-i-preserved : goal.loop-i-preserved
 loop-i-preserved c =

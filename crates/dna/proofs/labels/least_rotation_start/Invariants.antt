@@ -1,4 +1,5 @@
--- The invariant is `Chase`: the least start is behind neither of the two starts unless it is the other. Assumes nothing.
+-- The invariant is `Chase`: the least start is behind neither of the two starts unless it is the other. Assumes
+-- nothing.
 use mathlib.Core.Path.{◌≡◌}
 use Prim.Native.Nat.{◌+◌, ◌-◌, ◌*◌, ◌<◌}
 use lib.ListN.{length}

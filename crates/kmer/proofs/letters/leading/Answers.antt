@@ -1,5 +1,6 @@
 -- Each letter is that of its digit. Assumes nothing.
 use mathlib.Core.Path.{sym, ap, ◌∙◌}
+use Prim.Native.Nat.{◌<◌}
 use native.Mathlib.Omega.{arith}
 use lib.ListN.{length-take}
 use Rattle.lemmas.proofs.Building.{built_more}
@@ -14,6 +15,6 @@ loop-i-preserved c =
     let a = c.args in
     let l = c.loop-i in
     let v = value_of a.x in
-    built_more (letters a.k v) _ l.cell-items l.i l.invariant c.to_ascii.result
-    (simp length_letters (omega (arith, length-take a.n a.out.now))) (omega arith)
-    (c.to_ascii.ensures ∙ ap letter_of (c.from_bits.ensures ∙ omega (arith, c.digit.ensures)) ∙ sym (letter_at a.k v l.i (omega (arith, length-take a.n a.out.now))))
+    let h : l.i < a.k = omega (arith, length-take a.n a.out.now) in
+    built_more (letters a.k v) _ l.cell-items l.i l.invariant c.to_ascii.result (simp length_letters h) (omega arith)
+    (c.to_ascii.ensures ∙ ap letter_of (c.from_bits.ensures ∙ omega (arith, c.digit.ensures)) ∙ sym (letter_at a.k v l.i h))

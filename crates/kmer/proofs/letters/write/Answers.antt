@@ -24,7 +24,8 @@ loop-i-preserved c =
     let k = a.k in
     let j = k / 4 - 1 - l.i in
     let at = k % 4 + 4 * l.i in
-    let quad = ap (λ (q : List ℕ). get_or q byte.result 0) c.table-quads.ensures ∙ made_at quad_of 256 byte.result (search rules) in
+    let quad =
+    ap (λ (q : List ℕ). get_or q byte.result 0) c.table-quads.ensures ∙ made_at quad_of 256 byte.result (search rules) in
     λ s h b.
     rw (c.put_quad.ensures, c.from.ensures)
     (recount _ s _ {i = at + 4} (omega arith)

@@ -1,5 +1,5 @@
--- The leading letters, then with each turn four letters more: whatever slice the leading letters were written into, they are
--- written there too. Assumes nothing.
+-- The leading letters, then with each turn four letters more: whatever slice the leading letters were written into,
+-- they are written there too. Assumes nothing.
 use mathlib.Core.List.{List}
 use Prim.Native.Nat.{ℕ, ◌+◌, ◌*◌, ◌%◌, ◌≤◌}
 use lib.ListN.{length}
@@ -10,4 +10,5 @@ use Rattle.kmer.proofs.letters.write.Given as goal
 
 abbrev pub invariant-loop-i : goal.invariant-loop-i
 invariant-loop-i l =
-    (s : List ℕ) → l.k ≤ length s → Built (letters l.k (value_of l.x)) s l.initial.out (l.k % 4) → Built (letters l.k (value_of l.x)) s l.out (l.k % 4 + 4 * l.i)
+    (s : List ℕ) → l.k ≤ length s → Built (letters l.k (value_of l.x)) s l.initial.out (l.k % 4)
+    → Built (letters l.k (value_of l.x)) s l.out (l.k % 4 + 4 * l.i)

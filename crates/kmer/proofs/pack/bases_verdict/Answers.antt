@@ -10,12 +10,14 @@ unfolding pack_bases
 returns-then-not-is_dna_ascii c =
     let s = c.args.seq.now in
     let l = c.loop-place in
-    ap (pack_bases s) (bad_here s l.place l.invariant (omega arith) (sym c.is_dna_ascii.ensures ∙ c.if-not-is_dna_ascii.true))
+    ap (pack_bases s)
+    (bad_here s l.place l.invariant (omega arith) (sym c.is_dna_ascii.ensures ∙ c.if-not-is_dna_ascii.true))
 
 pub loop-place-preserved : goal.loop-place-preserved
 loop-place-preserved c =
     let l = c.loop-place in
-    bad_behind c.args.seq.now l.place l.invariant (omega arith) (sym c.is_dna_ascii.ensures ∙ c.if-not-is_dna_ascii.false)
+    bad_behind c.args.seq.now l.place l.invariant (omega arith)
+    (sym c.is_dna_ascii.ensures ∙ c.if-not-is_dna_ascii.false)
 
 pub returns : goal.returns
 unfolding pack_bases

@@ -16,4 +16,6 @@ push_low-word-requires c = rw (c.from.ensures, c.valid_ascii_base_bits.ensures) 
 pub loop-byte-preserved : goal.loop-byte-preserved
 loop-byte-preserved c =
     let l = c.loop-byte in
-    c.push_low-word.ensures ∙ rw (c.from.ensures, c.valid_ascii_base_bits.ensures, l.invariant) (word_more c.args.seq.now l.byte-index c.requires (omega arith))
+    c.push_low-word.ensures
+    ∙ rw (c.from.ensures, c.valid_ascii_base_bits.ensures, l.invariant)
+    (word_more c.args.seq.now l.byte-index c.requires (omega arith))

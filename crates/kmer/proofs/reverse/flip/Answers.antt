@@ -1,5 +1,5 @@
--- Each step of the code is a step of the swap network, and then the bytes turn round; what comes out and the reverse complement add
--- up to 2 ^ 64 - 1. Assumes nothing.
+-- Each step of the code is a step of the swap network, and then the bytes turn round; what comes out and the reverse
+-- complement add up to 2 ^ 64 - 1. Assumes nothing.
 use mathlib.Core.Path.{◌≡◌, refl, ap, ◌∙◌}
 use Prim.Native.Nat.{ℕ, ◌^◌, ◌<◌}
 use native.Mathlib.Omega.{arith}
