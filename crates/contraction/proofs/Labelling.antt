@@ -117,8 +117,3 @@ module _ {K : ℕ} {keys ms : List ℕ} (r : Ready K keys ms) (a : ℕ) {b : Wal
           end = q;
           walks = p.cells;
         }
-
--- The trail keeps its length.
-pub extracts_length : {K : ℕ} {keys ms : List ℕ} {a : ℕ} {r : Label} {after trail : List ℕ} {at : ℕ} {trail' : List ℕ}
-    → Extracts K keys ms a r after trail at trail' → at + length (piece_in K keys ms a) ≤ length trail → length trail' ≡ length trail
-extracts_length {K} {keys} {ms} {a} x h = placed_length {text = piece_in K keys ms a} (record { room = h; cells = x.walks })

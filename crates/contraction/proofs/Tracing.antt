@@ -56,16 +56,8 @@ module _ {K : ℕ} {keys ms : List ℕ} {a : ℕ} {trail : List ℕ} {at : ℕ} 
     bases_is : b.bases ≡ length (map letter_of B.bases)
     bases_is = back.walks.bases ∙ sym (length-map B.bases letter_of)
 
-    pub front_vertex : Ready K keys ms₁ × (a < length ms₁)
-    front_vertex =
-        let kept = back.walks.ends_kept in
-        (ready_still y.ready kept, omega (arith, y.vertex, ends_length ms ms₁ kept))
-
     pub half_fits : at + b.bases < length trail
     half_fits = omega (arith, back.walks.bases, back_room)
-
-    pub half_inside : at + b.bases < length trail₁
-    half_inside = omega (arith, half_fits, placed_length back_placed)
 
     module _ (c : closed b.last ≡ true) where
       ended : closed B.last ≡ true
@@ -87,17 +79,6 @@ module _ {K : ℕ} {keys ms : List ℕ} {a : ℕ} {trail : List ℕ} {at : ℕ} 
       same_front : walk_in K keys ms₁ a Front ≡ F
       same_front = front_is y.ready a back.walks
 
-      pub front_room : at + b.bases + 1 + length (walk_in K keys ms₁ a Front).bases ≤ length (set trail₁ (at + b.bases) 0)
-      front_room =
-          omega (
-            arith,
-            y.room,
-            open_long B F going,
-            back.walks.bases,
-            ap (λ (w : Walk). length w.bases) same_front,
-            placed_length stop_placed,
-          )
-
       module _ {f : Walked} {ms₂ trail₂ : List ℕ}
           (front : Spells K keys ms₁ a Front f ms₂ (set trail₁ (at + b.bases) 0) (at + b.bases + 1) trail₂) where
         front_long : f.bases ≡ length F.bases
@@ -117,9 +98,6 @@ module _ {K : ℕ} {keys ms : List ℕ} {a : ℕ} {trail : List ℕ} {at : ℕ} 
 
         pub end_fits : at + b.bases + 1 + f.bases < length trail
         end_fits = omega (arith, y.room, open_long B F going, back.walks.bases, front_long)
-
-        pub end_inside : at + b.bases + 1 + f.bases < length trail₂
-        end_inside = omega (arith, end_fits, placed_length front_placed)
 
         pub end_open : at + b.bases + 1 + f.bases + 1 ≡ at + length (piece_in K keys ms a)
         end_open = omega (arith, open_long B F going, back.walks.bases, front_long)

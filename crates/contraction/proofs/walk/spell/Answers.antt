@@ -17,39 +17,11 @@ loop-vertex-init c = (
   c.strands_of-strands.ensures,
 )
 
-pub advance-last-requires : goal.advance-last-requires
-advance-last-requires c =
-    let l = c.loop-vertex in
-    let g = l.invariant.0 in (
-      ready_still g.ready g.kept,
-      omega (arith, g.below, ends_length _ _ g.kept),
-      both_still c.args.keys.now c.args.marks.now _ l.v l.s g.kept l.invariant.2,
-    )
-
-pub rolled-strands-requires : goal.rolled-strands-requires
-rolled-strands-requires c =
-    let inv = c.loop-vertex.invariant in
-    let base = walking_base inv.0 c.advance-last.ensures c.in-Next.is in
-    (inv.0.ready.ok, omega (arith, base.1, c.base_of-letter.ensures), both_here inv.2)
-
-pub overflow_add-buffer : goal.overflow_add-buffer
-overflow_add-buffer c =
-    let g = c.loop-vertex.invariant in
-    let less = walking_less g.0 c.advance-last.ensures c.in-Next.is in
-    omega (arith, less, g.1.room, c.well_formed)
-
 pub bounds-buffer-at : goal.bounds-buffer-at
 bounds-buffer-at c =
     let g = c.loop-vertex.invariant in
     let less = walking_less g.0 c.advance-last.ensures c.in-Next.is in
     omega (arith, less, g.1.room, spelling_length g.1 g.0.within)
-
-pub overflow_add-bases : goal.overflow_add-bases
-overflow_add-bases c =
-    let a = c.args in
-    let g = c.loop-vertex.invariant.0 in
-    let less = walking_less g c.advance-last.ensures c.in-Next.is in
-    omega (arith, less, walk_few g.ready a.anchor a.start, g.ready.few)
 
 pub loop-vertex-smaller : goal.loop-vertex-smaller
 loop-vertex-smaller c = omega (arith, walking_less c.loop-vertex.invariant.0 c.advance-last.ensures c.in-Next.is)

@@ -1,7 +1,7 @@
 -- The texts of the label are placed one behind the other, and made the smaller strand. Assumes nothing.
 use native.Mathlib.Omega.{arith}
 use Rattle.kmer.specs.Says.{value_of}
-use Rattle.contraction.proofs.Writing.{Legible, back_inside, fits_closed, room_closed, whole_closed, written_closed, front_ends, front_inside, fits_open, kmer_room, back_room, whole_open, written_open}
+use Rattle.contraction.proofs.Writing.{Legible, back_inside, fits_closed, room_closed, whole_closed, written_closed, front_inside, fits_open, kmer_room, back_room, whole_open, written_open}
 use Rattle.contraction.proofs.write.write_label.Goals as goal
 
 pub put_letters-requires : goal.put_letters-requires

@@ -1,7 +1,7 @@
 use native.Mathlib.Omega.{arith}
 use Rattle.contraction.proofs.Ahead.{ahead, listed_more}
 use Rattle.contraction.proofs.Anchors.{anchor_small}
-use Rattle.contraction.proofs.Listed.{listed_none, listed_skip, listed_all, standing}
+use Rattle.contraction.proofs.Listed.{listed_none, listed_skip, standing}
 use Rattle.contraction.proofs.Standing.{place_inside, piece_here}
 use Rattle.contraction.proofs.write.write_labels.Goals as goal
 
