@@ -1,12 +1,12 @@
 // A label file, what the program prints for it, and what it leaves in its buffers.
 use super::found;
 use super::read::Data;
-use label_file::ListAnswer;
+use dna::NoRoom;
 
 // What a run left: the bytes to be printed, the table with its marks, the labels and their index.
 fn left(
     data: &mut Data<'_>,
-    answer: ListAnswer,
+    answer: Result<usize, NoRoom>,
     keys: &[u64],
     counts: &[u32],
     labels: &[u8],
@@ -16,10 +16,7 @@ fn left(
     text: &[u8],
 ) -> Option<bool> {
     let printed = data.length()?;
-    let told = match answer {
-        ListAnswer::Printed(n) => n == printed,
-        ListAnswer::NoRoom => false,
-    };
+    let told = answer == Ok(printed);
     let lines = found::bytes(data, printed, text)?;
     let n = data.length()?;
     let table = found::table(data, n, keys, counts)?;
@@ -55,10 +52,9 @@ fn listed(data: &mut Data<'_>, file: &[u8]) -> Option<bool> {
     )
 }
 
-// A case, of whose file's length the low byte is read.
-pub fn case(data: &mut Data<'_>, low: u8) -> Option<bool> {
-    let high = data.byte()?;
-    let n = u16::from_le_bytes([low, high]);
+// A case, whose first byte is the low one of its file's length.
+pub fn case(data: &mut Data<'_>, first: u8) -> Option<bool> {
+    let n = u16::from_le_bytes([first, data.byte()?]);
     let file = data.bytes(usize::from(n))?;
     listed(data, file)
 }

@@ -7,41 +7,27 @@ pub fn bytes(data: &mut Data<'_>, n: usize, ours: &[u8]) -> Option<bool> {
     Some(theirs == ours.get(..n)?)
 }
 
-pub fn words(data: &mut Data<'_>, n: usize, ours: &[u64]) -> Option<bool> {
+// Cells, of which `next` gives what is recorded.
+fn cells<T: Copy + PartialEq, N: FnMut() -> Option<T>>(ours: &[T], mut next: N) -> Option<bool>
+    requires { N.IsAlwaysCallable next }
+{
     let mut same = true;
-    for word in ours.get(..n)? {
-        same &= data.word()? == *word;
-    }
-    Some(same)
-}
-
-fn cells(data: &mut Data<'_>, n: usize, ours: &[u32]) -> Option<bool> {
-    let mut same = true;
-    for cell in ours.get(..n)? {
-        same &= data.cell()? == *cell;
-    }
-    Some(same)
-}
-
-// Cells recorded in two bytes each.
-fn lengths(data: &mut Data<'_>, n: usize, ours: &[u32]) -> Option<bool> {
-    let mut same = true;
-    for length in ours.get(..n)? {
-        same &= data.length()? == *length as usize;
+    for cell in ours {
+        same &= next()? == *cell;
     }
     Some(same)
 }
 
 // The keys and the counts of a table.
 pub fn table(data: &mut Data<'_>, n: usize, keys: &[u64], counts: &[u32]) -> Option<bool> {
-    let keys = words(data, n.checked_mul(2)?, keys)?;
-    let counts = cells(data, n, counts)?;
+    let keys = cells(keys.get(..n.checked_mul(2)?)?, || data.word())?;
+    let counts = cells(counts.get(..n)?, || data.cell())?;
     Some(keys & counts)
 }
 
-// The first entries of an index.
-pub fn index(data: &mut Data<'_>, n: usize, starts: &[u32], ends: &[u32]) -> Option<bool> {
-    let starts = lengths(data, n, starts)?;
-    let ends = lengths(data, n, ends)?;
-    Some(starts & ends)
+// The first entries of an index, recorded in two bytes each.
+pub fn index(data: &mut Data<'_>, n: usize, starts: &[u32], lengths: &[u32]) -> Option<bool> {
+    let starts = cells(starts.get(..n)?, || data.short())?;
+    let lengths = cells(lengths.get(..n)?, || data.short())?;
+    Some(starts & lengths)
 }

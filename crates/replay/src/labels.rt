@@ -1,89 +1,46 @@
 // Labels added to a table one after another.
 use super::found;
 use super::read::Data;
-use adding::AddAnswer;
+use adding::Addition;
 
-// The edges of a label and the vertices stored after it; and whether all was the same so far.
-#[derive(Clone, Copy)]
-struct After {
-    edges: usize,
-    stored: usize,
-    same: bool,
-}
-
-// After a label that was answered so.
-fn answered(answer: AddAnswer, same: bool) -> After {
-    match answer {
-        AddAnswer::Added { edges, stored } => After {
-            edges,
-            stored,
-            same,
-        },
-        _ => After {
-            edges: 0,
-            stored: 0,
-            same: false,
-        },
-    }
-}
-
-// A label read and added.
-fn add(
+// A label added to a table of so many vertices: whether that was answered as is recorded, and the vertices stored
+// afterwards.
+fn step(
     data: &mut Data<'_>,
     k: usize,
-    before: After,
+    n: usize,
     keys: &mut [u64],
     counts: &mut [u32],
-) -> Option<After> {
+) -> Option<(bool, usize)> {
     let length = data.length()?;
     let label = data.bytes(length)?;
     let answer = adding::add_label(
         state::EdgeKind::Counted,
         adding::Mode::SameCanonical,
         k,
-        before.stored,
+        n,
         keys,
         counts,
         label,
     );
-    Some(answered(answer, before.same))
+    let edges = data.length()?;
+    let stored = data.length()?;
+    let same = found::table(data, stored, keys, counts)?
+        & (answer == Ok(Addition { edges, stored }));
+    Some((same, answer.map_or(0, |added| added.stored)))
 }
 
-// A label, and what was answered.
-fn step(
-    data: &mut Data<'_>,
-    k: usize,
-    before: After,
-    keys: &mut [u64],
-    counts: &mut [u32],
-) -> Option<After> {
-    let After {
-        edges,
-        stored,
-        same,
-    } = add(data, k, before, keys, counts)?;
-    let same_edges = data.length()? == edges;
-    let n = data.length()?;
-    let same_table = found::table(data, n, keys, counts)?;
-    Some(After {
-        edges,
-        stored,
-        same: same & same_edges & (n == stored) & same_table,
-    })
-}
-
-// A case, whose K is read.
-pub fn case(data: &mut Data<'_>, k: usize) -> Option<bool> {
+// A case, whose first byte is K.
+pub fn case(data: &mut Data<'_>, first: u8) -> Option<bool> {
     let mut keys = [0u64; 2048];
     let mut counts = [0u32; 1024];
     let labels = data.length()?;
-    let mut now = After {
-        edges: 0,
-        stored: 0,
-        same: true,
-    };
+    let mut same = true;
+    let mut n = 0;
     for _ in 0..labels {
-        now = step(data, k, now, &mut keys, &mut counts)?;
+        let (alike, stored) = step(data, usize::from(first), n, &mut keys, &mut counts)?;
+        same &= alike;
+        n = stored;
     }
-    Some(now.same)
+    Some(same)
 }

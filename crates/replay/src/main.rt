@@ -15,48 +15,29 @@ mod read;
 mod tables;
 
 #[derive(Clone, Copy)]
-enum Kind {
-    Kmers,
-    Labels,
-    Tables,
-    Files,
-}
-
-#[derive(Clone, Copy)]
 struct Tally {
     compared: usize,
     differ: usize,
-    cut: bool,
 }
 
-// Whether the library answers as is recorded in the next case, whose first byte is read; `None` where the case is cut.
-fn case(data: &mut Data<'_>, kind: Kind, first: u8) -> Option<bool> {
-    match kind {
-        Kind::Kmers => kmers::case(data, usize::from(first)),
-        Kind::Labels => labels::case(data, usize::from(first)),
-        Kind::Tables => tables::case(data, usize::from(first)),
-        Kind::Files => files::case(data, first),
-    }
-}
-
-fn compare(rt: &impl Print, name: &str, kind: Kind, bytes: &[u8]) -> io::Result<Tally> {
+// The cases of a file, of each of which the first byte is read here; `None` where one is cut.
+fn compare<C: Fn(&mut Data<'_>, u8) -> Option<bool>>(
+    rt: &impl Print,
+    name: &str,
+    case: C,
+    bytes: &[u8],
+) -> io::Result<Option<Tally>>
+    requires { C.IsAlwaysCallable case }
+{
     let mut data = Data::new(bytes);
     let mut differ = 0;
     // Each case takes a byte at least.
     for compared in 0..bytes.len() {
         let Some(first) = data.byte() else {
-            return Ok(Tally {
-                compared,
-                differ,
-                cut: false,
-            });
+            return Ok(Some(Tally { compared, differ }));
         };
-        let Some(same) = case(&mut data, kind, first) else {
-            return Ok(Tally {
-                compared,
-                differ,
-                cut: true,
-            });
+        let Some(same) = case(&mut data, first) else {
+            return Ok(None);
         };
         if !same {
             differ += 1;
@@ -65,25 +46,19 @@ fn compare(rt: &impl Print, name: &str, kind: Kind, bytes: &[u8]) -> io::Result<
             }
         }
     }
-    Ok(Tally {
+    Ok(Some(Tally {
         compared: bytes.len(),
         differ,
-        cut: false,
-    })
+    }))
 }
 
-fn report(rt: &impl Print, name: &str, tally: Tally) -> io::Result<()> {
-    let Tally {
-        compared,
-        differ,
-        cut,
-    } = tally;
-    if cut {
-        println!(rt; "{name}: data cut short")
-    } else if compared == 0 {
-        println!(rt; "{name}: data missing")
-    } else {
-        println!(rt; "{name}: {compared} compared, {differ} differ")
+fn report(rt: &impl Print, name: &str, tally: Option<Tally>) -> io::Result<()> {
+    match tally {
+        None => println!(rt; "{name}: data cut short"),
+        Some(Tally { compared: 0, .. }) => println!(rt; "{name}: data missing"),
+        Some(Tally { compared, differ }) => {
+            println!(rt; "{name}: {compared} compared, {differ} differ")
+        }
     }
 }
 
@@ -95,15 +70,22 @@ fn read_file<R: Files + AllocGlobal>(rt: &R, name: &str) -> io::Result<Vec<u8>> 
     }
 }
 
-fn replay<R: Files + Print + AllocGlobal>(rt: &R, name: &str, kind: Kind) -> io::Result<()> {
+// A file whose cases are read by `case`: it says whether the library answers as is recorded.
+fn replay<R: Files + Print + AllocGlobal, C: Fn(&mut Data<'_>, u8) -> Option<bool>>(
+    rt: &R,
+    name: &str,
+    case: C,
+) -> io::Result<()>
+    requires { C.IsAlwaysCallable case }
+{
     let bytes = read_file(rt, name)?;
-    let tally = compare(rt, name, kind, &bytes)?;
+    let tally = compare(rt, name, case, &bytes)?;
     report(rt, name, tally)
 }
 
 fn main(rt: HostRuntime) -> io::Result<()> {
-    replay(&rt, "kmers", Kind::Kmers)?;
-    replay(&rt, "labels", Kind::Labels)?;
-    replay(&rt, "tables", Kind::Tables)?;
-    replay(&rt, "files", Kind::Files)
+    replay(&rt, "kmers", kmers::case)?;
+    replay(&rt, "labels", labels::case)?;
+    replay(&rt, "tables", tables::case)?;
+    replay(&rt, "files", files::case)
 }

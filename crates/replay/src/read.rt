@@ -28,6 +28,11 @@ impl<'a> Data<'a> {
     }
 
     // A number of two bytes.
+    pub fn short(&mut self) -> Option<u32> {
+        Some(u32::from(u16::from_le_bytes(self.chunk()?)))
+    }
+
+    // The same, as a length.
     pub fn length(&mut self) -> Option<usize> {
         Some(usize::from(u16::from_le_bytes(self.chunk()?)))
     }

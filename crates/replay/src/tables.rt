@@ -1,54 +1,39 @@
 // A table made by hand and its contraction.
 use super::found;
 use super::read::Data;
-use contraction::ContractAnswer;
+use contraction::{ContractError, Unitigs};
 
-// The number of the refusal, 0 where there is none, and the labels and bases listed.
-#[derive(Clone, Copy)]
-struct Totals {
-    refusal: u8,
-    labels: usize,
-    bases: usize,
-}
-
-fn refused(refusal: u8) -> Totals {
-    Totals {
-        refusal,
-        labels: 0,
-        bases: 0,
-    }
-}
-
-fn sums(answer: ContractAnswer) -> Totals {
+// The number that is recorded of an answer: 0 where the table was contracted, else the refusal's.
+fn number_of(answer: Result<Unitigs, ContractError>) -> u8 {
     match answer {
-        ContractAnswer::Contracted { labels, bases } => Totals {
-            refusal: 0,
-            labels,
-            bases,
-        },
-        ContractAnswer::MissingVertex => refused(8),
-        ContractAnswer::NoRoom => refused(9),
-        _ => refused(255),
+        Ok(_) => 0,
+        Err(ContractError::MissingVertex) => 8,
+        Err(ContractError::NoRoom) => 9,
+        Err(_) => 255,
     }
 }
 
-// What was answered: the refusal, the marks of n vertices, the labels and their index.
+// What was answered: its number, the marks of n vertices, the labels and their index.
 fn answers(
     data: &mut Data<'_>,
     n: usize,
-    all: Totals,
+    answer: Result<Unitigs, ContractError>,
     labels: &[u8],
     starts: &[u32],
     lengths: &[u32],
     marks: &[u8],
 ) -> Option<bool> {
-    let refusal = data.byte()? == all.refusal;
+    let told = data.byte()? == number_of(answer);
     let marked = found::bytes(data, n, marks)?;
     let bases = data.length()?;
     let spelled = found::bytes(data, bases, labels)?;
     let count = data.length()?;
     let indexed = found::index(data, count, starts, lengths)?;
-    Some(refusal & marked & (bases == all.bases) & spelled & (count == all.labels) & indexed)
+    let all = answer.unwrap_or(Unitigs {
+        labels: 0,
+        bases: 0,
+    });
+    Some(told & marked & (bases == all.bases) & spelled & (count == all.labels) & indexed)
 }
 
 // A table contracted into slices, and what was answered.
@@ -64,7 +49,7 @@ fn contracted(
     lengths: &mut [u32],
 ) -> Option<bool> {
     let mut marks = [0u8; 32];
-    let all = sums(contraction::contract(
+    let answer = contraction::contract(
         state::EdgeKind::Counted,
         k,
         cutoff,
@@ -75,8 +60,8 @@ fn contracted(
         starts,
         lengths,
         &mut marks,
-    ));
-    answers(data, n, all, labels, starts, lengths, &marks)
+    );
+    answers(data, n, answer, labels, starts, lengths, &marks)
 }
 
 // A table of n vertices, with room for so many bytes and entries.
@@ -106,8 +91,8 @@ fn with_room(
     )
 }
 
-// A case, whose K is read.
-pub fn case(data: &mut Data<'_>, k: usize) -> Option<bool> {
+// A case, whose first byte is K.
+pub fn case(data: &mut Data<'_>, first: u8) -> Option<bool> {
     let mut keys = [0u64; 64];
     let mut counts = [0u32; 32];
     let cutoff = data.cell()?;
@@ -117,5 +102,5 @@ pub fn case(data: &mut Data<'_>, k: usize) -> Option<bool> {
     }
     data.words(&mut keys[..2 * n])?;
     data.cells(&mut counts[..n])?;
-    with_room(data, k, cutoff, n, &keys, &counts)
+    with_room(data, usize::from(first), cutoff, n, &keys, &counts)
 }
