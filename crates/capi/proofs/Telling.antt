@@ -26,7 +26,8 @@ module _ {r s : ℕ} {figures₀ figures figures' : List ℕ} where
   )
 
   pub adds_labels_one : {keys keys' counts counts' totals₀ totals totals' : List ℕ} {a : Several}
-      → AddsSeveral r keys counts totals₀ totals figures₀ figures a → AddsSeveral s keys' counts' totals₀ totals' figures₀ figures' a
+      → AddsSeveral r keys counts totals₀ totals figures₀ figures a
+      → AddsSeveral s keys' counts' totals₀ totals' figures₀ figures' a
       → (r ≡ s) × (totals ≡ totals') × (figures ≡ figures') × (keys ≡ keys') × (counts ≡ counts')
   adds_labels_one t u = (
     t.number ∙ sym u.number,
@@ -39,7 +40,8 @@ module _ {r s : ℕ} {figures₀ figures figures' : List ℕ} where
   pub contracts_table_one : {labels labels' starts starts' lengths lengths' marks marks' : List ℕ} {c : Contracted}
       → ContractsTable r labels starts lengths marks figures₀ figures c
       → ContractsTable s labels' starts' lengths' marks' figures₀ figures' c
-      → (r ≡ s) × (figures ≡ figures') × (labels ≡ labels') × (starts ≡ starts') × (lengths ≡ lengths') × (marks ≡ marks')
+      → (r ≡ s) × (figures ≡ figures') × (labels ≡ labels')
+      × (starts ≡ starts') × (lengths ≡ lengths') × (marks ≡ marks')
   contracts_table_one t u = (
     t.number ∙ sym u.number,
     t.figures_after ∙ sym u.figures_after,

@@ -1,9 +1,0 @@
--- By whether the number is 0. Assumes nothing.
-use borrow.Author.Tests.{eq-eqb, ne_eqb}
-use Rattle.capi.proofs.mode_of.Goals as goal
-
-pub returns-then-number-eq0 : goal.returns-then-number-eq0
-returns-then-number-eq0 c = rw (eq-eqb _ _ c.if-number-eq0.true)
-
-pub returns : goal.returns
-returns c = rw (ne_eqb _ _ c.if-number-eq0.false)
