@@ -39,11 +39,8 @@ module _ (b lo hi : ℕ) (h : b ≤ 7) (l : lo < 2 ^ 64) where
         ap (λ (n : ℕ). n % 4 ^ b)
         (ap (λ (n : ℕ). n / 2 ^ (s - 64)) (sym (high_of lo hi l)) ∙ shr-shr (joined lo hi) 64 (s - 64) ∙ ap (λ (n : ℕ). joined lo hi / 2 ^ n) e)
 
--- A k-mer of at most b bases, and a longer one.
+-- The first b bases of a k-mer.
 module _ (b k x : ℕ) where
-  pub slot_all : k ≤ b → x / 2 ^ 0 % 4 ^ b ≡ slot_of b k x
-  slot_all h = let e : k - b ≡ 0 = omega arith in rw e
-
   pub slot_long : x / 2 ^ (2 * (k - b)) % 4 ^ b ≡ slot_of b k x
   slot_long = rw (four (k - b))
 

@@ -2,13 +2,12 @@
 use mathlib.Core.Path.{◌≡◌, sym, ap, ◌∙◌}
 use mathlib.Core.Bool.{Bool, cond}
 use mathlib.Core.List.{List}
-use Prim.Native.Nat.{ℕ, ◌/◌, ◌≤◌, ◌<◌, min}
-use native.Mathlib.Omega.{arith}
+use Prim.Native.Nat.{ℕ, ◌/◌, ◌<◌, min}
 use lib.ListN.{length}
 use Rattle.graph.specs.Table.{keys_of}
 use Rattle.graph.proofs.Keys.{keys_most}
 use Rattle.directory.specs.Directory.{bases_of, slot_of, tallied, spread, directory_of}
-use Rattle.directory.proofs.Cells.{bases_none, bases_some}
+use Rattle.directory.proofs.Cells.{bases_some}
 
 module _ (k n : ℕ) (words cells : List ℕ) where
   abbrev whole : List ℕ
@@ -19,6 +18,3 @@ module _ (k n : ℕ) (words cells : List ℕ) where
   made b m mid out e l f t s =
       let z = bases_some (length cells) (rw e at l) in
       s ∙ ap (spread 0) (t ∙ rw (e, f, keys_most n words)) ∙ sym (ap (λ (c : Bool). cond c whole cells) z)
-
-  pub made_none : bases_of (length cells) ≤ 0 → cells ≡ directory_of k (keys_of n words) cells
-  made_none e = rw (bases_none (length cells) (omega arith))

@@ -4,6 +4,7 @@ use mathlib.Core.Bool.{Bool, true, false, ◌&&◌}
 use mathlib.Core.List.{List}
 use Prim.Native.Nat.{ℕ, zero, suc, ◌+◌, ◌-◌, ◌/◌, ◌≤◌, ◌<◌, min}
 use native.Mathlib.Omega.{arith}
+use Rattle.std.specs.Prelude.{Result, Err}
 use borrow.Author.Tests.{ltb-true, le-leb, lt-leb, eq-eqb, ne_eqb}
 use lib.Dec.{ltb, eqb}
 use lib.ListN.{length, get_or}
@@ -11,8 +12,6 @@ use Rattle.lemmas.proofs.Tests.{choose}
 use Rattle.graph.specs.Table.{keys_of}
 use Rattle.graph.proofs.Keys.{keys_length}
 use Rattle.table.specs.Search.{key, halving, place_between, find_between}
-use Rattle.table.specs.declared.Found.{Found}
-use Rattle.table.specs.declared.Found.TheVariants.{Gap}
 use Rattle.table.proofs.Keys.{key_is}
 use Rattle.table.proofs.Halving.{middle}
 use Rattle.directory.specs.Directory.{before, stands}
@@ -27,16 +26,16 @@ module _ (n : ℕ) (words : List ℕ) (x i : ℕ) where
   pub before_end : min n (length words / 2) ≤ i → true ≡ before (keys_of n words) x i
   before_end h = let s = keys_length n words in rw (le-leb (length (keys_of n words)) i (omega arith))
 
-  pub stands_not : before (keys_of n words) x i ≡ false → false ≡ stands (keys_of n words) x (Gap i)
+  pub stands_not : before (keys_of n words) x i ≡ false → false ≡ stands (keys_of n words) x (Err i)
   unfolding stands
   stands_not e = rw e
 
-  pub stands_first : before (keys_of n words) x i ≡ true → i ≡ 0 → true ≡ stands (keys_of n words) x (Gap i)
+  pub stands_first : before (keys_of n words) x i ≡ true → i ≡ 0 → true ≡ stands (keys_of n words) x (Err i)
   unfolding stands
   stands_first e z = rw (e, eq-eqb i 0 z)
 
   pub stands_on : (v : ℕ) → before (keys_of n words) x i ≡ true → (i ≡ 0 → ⊥) → i ≤ length (keys_of n words) → v ≡ key words (i - 1)
-      → ltb v x ≡ stands (keys_of n words) x (Gap i)
+      → ltb v x ≡ stands (keys_of n words) x (Err i)
   unfolding stands
   stands_on v e z h k =
       let s = keys_length n words in
@@ -53,12 +52,12 @@ halving_most passes (suc most) lo hi h =
     (λ _. omega (arith, halving_most passes most lo (middle lo hi) (omega arith))))
     (λ _. h)
 
-pub gap_most : (ks : List ℕ) (lo hi x i : ℕ) → find_between ks lo hi x ≡ Gap i → i ≤ length ks
+pub gap_most : (ks : List ℕ) (lo hi x i : ℕ) → find_between ks lo hi x ≡ Err i → i ≤ length ks
 unfolding find_between place_between
 gap_most ks lo hi x i e =
     let end = min hi (length ks) in
     let p = place_between ks (min lo end) end x in
-    choose (λ (f : Found). f ≡ Gap i → i ≤ length ks) (ltb p end && eqb (get_or ks p 0) x)
+    choose (λ (f : Result ℕ ℕ). f ≡ Err i → i ≤ length ks) (ltb p end && eqb (get_or ks p 0) x)
     (λ t e. let z : ◌≡◌ {A = ℕ} 0 1 = cc in absurd (omega arith))
     (λ t e.
     let s : p ≡ i = cc in

@@ -19,13 +19,11 @@ pub use making::make;
 pub fn cells_for(n: usize) -> usize
     ensures { result ≡ cells_for n }
 {
-    if n <= 2048 {
-        return 1025;
+    match n {
+        0..=2048 => 1025,
+        2049..=8192 => 4097,
+        _ => 16385,
     }
-    if n <= 8192 {
-        return 4097;
-    }
-    16385
 }
 
 // Key i; private, as table's, since a public one would have a `requires`.
@@ -42,11 +40,7 @@ fn key_at(keys: &[u64], i: usize) -> Kmer
 fn is_before(n: usize, keys: &[u64], i: usize, x: Kmer) -> bool
     ensures { result ≡ before (keys_of n keys.now) (value_of x) i }
 {
-    if i < n.min(keys.len() / 2) {
-        let y = key_at(keys, i);
-        return x.is_less(y);
-    }
-    true
+    n.min(keys.len() / 2) <= i || x.is_less(key_at(keys, i))
 }
 
 // Of the first n keys the one at place i, if there is one, is above x, and the one before it below.
@@ -54,14 +48,7 @@ fn is_between(n: usize, keys: &[u64], i: usize, x: Kmer) -> bool
     requires { i ≤ length (keys_of n keys.now) }
     ensures { result ≡ stands (keys_of n keys.now) (value_of x) (Err i) }
 {
-    if !is_before(n, keys, i, x) {
-        return false;
-    }
-    if i == 0 {
-        return true;
-    }
-    let y = key_at(keys, i - 1);
-    y.is_less(x)
+    is_before(n, keys, i, x) && (i == 0 || key_at(keys, i - 1).is_less(x))
 }
 
 // Where x stands among the first n keys, as far as there are so many; else where it would be put in.
@@ -76,7 +63,8 @@ pub fn find(k: usize, n: usize, keys: &[u64], directory: &[u32], x: Kmer) -> Res
     let lo = directory[t] as usize;
     let hi = directory[t + 1] as usize;
     match table::find_between(n, keys, lo, hi, x) {
-        Err(i) if !is_between(n, keys, i, x) => table::find(n, keys, x),
-        found => found,
+        Ok(i) => Ok(i),
+        Err(i) if is_between(n, keys, i, x) => Err(i),
+        Err(_) => table::find(n, keys, x),
     }
 }

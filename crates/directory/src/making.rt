@@ -3,22 +3,16 @@ ghost use Rattle.std.specs.Prelude.{◌≡◌, ◌/◌, ◌^◌, ◌<◌, ◌≤
 ghost use Rattle.graph.specs.Table.{keys_of};
 ghost use Rattle.directory.specs.Directory.{slot_of, tallied, spread, directory_of};
 
-use super::slots;
-use kmer::Kmer;
+use super::{key_at, slots};
 
 // Beside each slot, one cell further on, the number of keys up to the last that is in it.
 fn tally(k: usize, b: usize, n: usize, keys: &[u64], directory: &mut [u32])
     requires { (b ≤ 7) × (n ≤ 65536) × (n ≤ length keys.now / 2) × (4 ^ b < length directory.old) }
     ensures { directory.new ≡ tallied (slot_of b k) 0 (keys_of n keys.now) directory.old }
 {
-    let mut i = 0;
-    while i < n {
-        let x = Kmer {
-            words: [keys[2 * i], keys[2 * i + 1]],
-        };
-        let t = slots::slot_of(k, b, x) + 1;
-        i += 1;
-        directory[t] = i as u32;
+    for i in 0..n {
+        let t = slots::slot_of(k, b, key_at(keys, i));
+        directory[t + 1] = (i + 1) as u32;
     }
 }
 
@@ -27,15 +21,9 @@ fn fill_gaps(directory: &mut [u32])
     ensures { directory.new ≡ spread 0 directory.old }
 {
     let mut most = 0;
-    let mut t = 0;
-    while t < directory.len() {
-        if directory[t] < most {
-            directory[t] = most;
-            t += 1;
-        } else {
-            most = directory[t];
-            t += 1;
-        }
+    for cell in directory.iter_mut() {
+        most = most.max(*cell);
+        *cell = most;
     }
 }
 

@@ -9,13 +9,12 @@ use kmer::Kmer;
 pub(crate) fn bases_of(cells: usize) -> usize
     ensures { result ≡ bases_of cells }
 {
-    if 16384 < cells {
-        return 7;
+    match cells {
+        0..=1024 => 0,
+        1025..=4096 => 5,
+        4097..=16384 => 6,
+        _ => 7,
     }
-    if 4096 < cells {
-        return 6;
-    }
-    if 1024 < cells { 5 } else { 0 }
 }
 
 // The last b bases of a word.
@@ -31,15 +30,12 @@ fn bases_before(x: Kmer, shift: usize, b: usize) -> usize
     requires { (shift < 128) × (b ≤ 7) }
     ensures { result ≡ value_of x / 2 ^ shift % 4 ^ b }
 {
-    let low = x.words[0];
-    let high = x.words[1];
-    if shift == 0 {
-        return last_bases(low, b);
+    let [low, high] = x.words;
+    match shift {
+        0 => last_bases(low, b),
+        1..64 => last_bases((low >> shift) | (high << (64 - shift)), b),
+        _ => last_bases(high >> (shift - 64), b),
     }
-    if shift < 64 {
-        return last_bases((low >> shift) | (high << (64 - shift)), b);
-    }
-    last_bases(high >> (shift - 64), b)
 }
 
 // The first b bases of a k-mer, or all where there are fewer.
@@ -47,11 +43,9 @@ pub(crate) fn slot_of(k: usize, b: usize, x: Kmer) -> usize
     requires { b ≤ 7 }
     ensures { result ≡ slot_of b k (value_of x) }
 {
-    if k <= b {
-        return bases_before(x, 0, b);
+    match k.saturating_sub(b) {
+        0 => bases_before(x, 0, b),
+        rest @ 1..64 => bases_before(x, 2 * rest, b),
+        _ => 0,
     }
-    if 63 < k - b {
-        return 0;
-    }
-    bases_before(x, 2 * (k - b), b)
 }

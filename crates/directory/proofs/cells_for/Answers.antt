@@ -1,16 +1,17 @@
 -- In the order of the definition. Assumes nothing.
-use borrow.Author.Tests.{le-leb, lt-leb}
+use Rattle.std.proofs.Common.{arith}
+use Rattle.std.proofs.lemmas.Bool.Decides.{nat_tests}
 use Rattle.directory.specs.Directory.{cells_for}
 use Rattle.directory.proofs.cells_for.Goals as goal
 
-pub returns-then-n-le2048 : goal.returns-then-n-le2048
+pub returns-in-0-to-2048 : goal.returns-in-0-to-2048
 unfolding cells_for
-returns-then-n-le2048 c = simp (le-leb _ _ c.if-n-le2048.true)
+returns-in-0-to-2048 c = grind (arith, nat_tests)
 
-pub returns-then-n-le8192 : goal.returns-then-n-le8192
+pub returns-in-2049-to-8192 : goal.returns-in-2049-to-8192
 unfolding cells_for
-returns-then-n-le8192 c = simp (lt-leb _ _ c.if-n-le2048.false, le-leb _ _ c.if-n-le8192.true)
+returns-in-2049-to-8192 c = grind (arith, nat_tests)
 
-pub returns : goal.returns
+pub returns-in_default : goal.returns-in_default
 unfolding cells_for
-returns c = simp (lt-leb _ _ c.if-n-le2048.false, lt-leb _ _ c.if-n-le8192.false)
+returns-in_default c = grind (arith, nat_tests)
