@@ -26,7 +26,8 @@ use Rattle.adding.specs.Says.{add_answer, Addable, Adds}
 use Rattle.adding.specs.declared.AddError.TheVariants as add
 use Rattle.adding.proofs.Batch.{batch, batch_number, batch_few}
 
-module _ {κ : Kind} {rule : Rule} {K : ℕ} {label : List ℕ} {n : ℕ} {keys counts : List ℕ} (a : Addable K label n keys counts)
+module _ {κ : Kind} {rule : Rule} {K : ℕ} {label : List ℕ} {n : ℕ} {keys counts : List ℕ}
+    (a : Addable K label n keys counts)
     {u : ℕ} {new-keys new-places new-counts : List ℕ}
     (g : Grouped κ rule K label (keys_of n keys) (sorted_new K label (keys_of n keys)) u new-keys new-places new-counts) where
   abbrev whole : Added
@@ -77,7 +78,8 @@ module _ {κ : Kind} {rule : Rule} {K : ℕ} {label : List ℕ} {n : ℕ} {keys 
     pub not_refused : {x : JoinError} → j ≡ Err x → ⊥
     not_refused q = let z : Ok (n + u) ≡ Err _ = sym put ∙ q in cc
 
-    pub adds_joined : {stored : ℕ} → j ≡ Ok stored → Adds (Ok (record { edges = length label - K; stored = stored })) keys'' counts'' whole
+    pub adds_joined : {stored : ℕ} → j ≡ Ok stored
+        → Adds (Ok (record { edges = length label - K; stored = stored })) keys'' counts'' whole
     unfolding add_bases
     adds_joined {stored} q =
         let c : ltb (capacity keys counts) (length after.keys) ≡ false =

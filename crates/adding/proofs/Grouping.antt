@@ -22,7 +22,8 @@ use Rattle.adding.proofs.Rowing.{put_other, put_key_lem, rows_next}
 use Rattle.adding.proofs.Vertices.{grouped_same, grouped_new}
 
 -- After t rows; the last vertex is of the last row.
-pub record Grouping (κ : Kind) (q : ℕ) (notes places offsets keys₀ : List ℕ) (t u : ℕ) (keys new-places counts : List ℕ) : Type 0 where
+pub record Grouping (κ : Kind) (q : ℕ) (notes places offsets keys₀ : List ℕ) (t u : ℕ)
+    (keys new-places counts : List ℕ) : Type 0 where
   pub few : u ≤ t
   pub kept : (i : ℕ) → 2 * t ≤ i → get_or keys i 0 ≡ get_or keys₀ i 0
   pub last : 0 < u → key_at keys (u - 1) ≡ key_at keys₀ (t - 1)
@@ -57,7 +58,8 @@ module _ {κ : Kind} {q : ℕ} {notes places offsets keys₀ : List ℕ} where
 
     pub grouping_same : ltb 0 u && eqb (key_at keys (u - 1)) x ≡ true
         → {w : ℕ} → w ≡ counted_by κ (get_or notes (get_or offsets t 0) 0) (get_or counts (u - 1) 0)
-        → u ≤ length keys / 2 → u ≤ length counts → Grouping κ q notes places offsets keys₀ (t + 1) u keys new-places (set counts (u - 1) w)
+        → u ≤ length keys / 2 → u ≤ length counts
+        → Grouping κ q notes places offsets keys₀ (t + 1) u keys new-places (set counts (u - 1) w)
     grouping_same s {w} ew lk lc =
         let b = both (ltb 0 u) (eqb (key_at keys (u - 1)) x) s in
         let at : key_at keys (u - 1) ≡ key_at keys₀ t = eqb-true (key_at keys (u - 1)) x b.1 ∙ here in
@@ -89,7 +91,8 @@ module _ {κ : Kind} {q : ℕ} {notes places offsets keys₀ : List ℕ} where
         (record {
           few = omega (arith, v.few);
           kept = λ i a.
-              ap (λ (l : List ℕ). get_or l i 0) ek ∙ put_other keys u x i (omega (arith, v.few)) ∙ v.kept i (omega arith);
+              ap (λ (l : List ℕ). get_or l i 0) ek ∙ put_other keys u x i (omega (arith, v.few))
+              ∙ v.kept i (omega arith);
           last = λ a. rw (end, back, ek) (put_key_lem keys u x lk ∙ here);
           grouped = λ rule K label ks l.
               rw (next, ek, here)

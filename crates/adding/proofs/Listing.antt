@@ -35,7 +35,8 @@ rows_words (r ∷ rs) a b =
     let e : joined (low r.key) (high r.key) ≡ r.key = omega arith in
     rw e (ap (λ (l : List Row). r ∷ l) (rows_words rs a b))
 
-ordered_at : (z : Row) (rs : List Row) → Ordered rs → (i j : ℕ) → i ≤ j → j < length rs → (get_or rs i z).key ≤ (get_or rs j z).key
+ordered_at : (z : Row) (rs : List Row) → Ordered rs → (i j : ℕ) → i ≤ j → j < length rs
+    → (get_or rs i z).key ≤ (get_or rs j z).key
 ordered_at z [] o i j h l = absurd (omega arith)
 ordered_at z (r ∷ rs) o zero zero h l = omega arith
 ordered_at z (r ∷ rs) o zero (suc j) h l = each_at (λ s. r.key ≤ s.key) z rs o.0 j (omega arith)
@@ -44,7 +45,8 @@ ordered_at z (r ∷ rs) o (suc i) (suc j) h l = ordered_at z rs o.1 i j (omega a
 
 -- ---- gathered and sorted
 
-module _ {rule : Rule} {K : ℕ} {label ks : List ℕ} {q : ℕ} {notes places keys₀ offsets₀ : List ℕ} (given : Given K label)
+module _ {rule : Rule} {K : ℕ} {label ks : List ℕ} {q : ℕ} {notes places keys₀ offsets₀ : List ℕ}
+    (given : Given K label)
     (g : Gathers rule K label ks (windows K label) q notes places keys₀ offsets₀)
     (room_keys : windows K label ≤ length keys₀ / 2) (room_offsets : windows K label ≤ length offsets₀)
     {r : Bool} {keys offsets : List ℕ} (s : Sorts r keys₀ offsets₀ q keys offsets)

@@ -27,21 +27,25 @@ module _ (K : ℕ) (label ks : List ℕ) (o : ℕ) where
   unfolding new_rows
   rows_new s = rw s
 
-  looked_next : (rule : Rule) {notes places : List ℕ} {v i : ℕ} → Looked rule K label ks o notes places → o < length notes → o < length places
-      → v ≡ note_at rule K label ks o → i ≡ rank ks (kmer_at K label o) → Looked rule K label ks (o + 1) (set notes o v) (set places o i)
+  looked_next : (rule : Rule) {notes places : List ℕ} {v i : ℕ} → Looked rule K label ks o notes places
+      → o < length notes → o < length places
+      → v ≡ note_at rule K label ks o → i ≡ rank ks (kmer_at K label o)
+      → Looked rule K label ks (o + 1) (set notes o v) (set places o i)
   looked_next rule {notes} {places} {v} {i} l hn hp en ep = record {
     noted = set_more notes (λ j. note_at rule K label ks j) o v hn l.noted en;
     placed = set_more places (λ j. rank ks (kmer_at K label j)) o i hp l.placed ep;
   }
 
 -- After o windows, of which the last one is given.
-pub record Looking (rule : Rule) (K : ℕ) (label ks : List ℕ) (o q : ℕ) (last : Option Seen) (notes places new-keys offsets : List ℕ) : Type 0 where
+pub record Looking (rule : Rule) (K : ℕ) (label ks : List ℕ) (o q : ℕ) (last : Option Seen)
+    (notes places new-keys offsets : List ℕ) : Type 0 where
   pub few : q ≤ o
   pub previous : SeesBefore K label o last
   pub gathers : Gathers rule K label ks o q notes places new-keys offsets
 
 module _ (rule : Rule) {K : ℕ} {label : List ℕ} (ks : List ℕ) where
-  pub looking_none : {notes places new-keys offsets : List ℕ} → Looking rule K label ks 0 0 None notes places new-keys offsets
+  pub looking_none : {notes places new-keys offsets : List ℕ}
+      → Looking rule K label ks 0 0 None notes places new-keys offsets
   unfolding new_rows rows
   looking_none = record {
     few = omega arith;
@@ -54,7 +58,8 @@ module _ (rule : Rule) {K : ℕ} {label : List ℕ} (ks : List ℕ) where
   }
 
   module _ {o q : ℕ} {z : Option Seen} {notes places new-keys offsets : List ℕ}
-      (v : Looking rule K label ks o q z notes places new-keys offsets) (note_there : o < length notes) (place_there : o < length places)
+      (v : Looking rule K label ks o q z notes places new-keys offsets)
+      (note_there : o < length notes) (place_there : o < length places)
       {x : Seen} (sx : Sees K label o x) {code i : ℕ} (ec : code ≡ code_at rule K label o) where
     pub looking_known : Finds ks (value_of x.kmer) i true
         → Looking rule K label ks (o + 1) q (Some x) (set notes o code) (set places o i) new-keys offsets
@@ -66,7 +71,8 @@ module _ (rule : Rule) {K : ℕ} {label : List ℕ} (ks : List ℕ) where
           few = omega (arith, v.few);
           previous = (o, (add-one o, sx));
           gathers = record {
-            looked = looked_next K label ks o rule g.looked note_there place_there (rw s (omega arith)) (rw sx.kmer at f.place);
+            looked = looked_next K label ks o rule g.looked note_there place_there (rw s (omega arith))
+                (rw sx.kmer at f.place);
             number = g.number ∙ sym (ap length r);
             new = g.new ∙ sym r;
           };
@@ -78,14 +84,16 @@ module _ (rule : Rule) {K : ℕ} {label : List ℕ} (ks : List ℕ) where
         (set offsets q o)
     looking_new f key_there offset_there {new-keys'} ek =
         let s : stored ks (kmer_at K label o) ≡ false = rw sx.kmer at f.is in
-        let r : new_rows K label ks (o + 1) ≡ new_rows K label ks o ++ (record { key = kmer_at K label o; number = o } ∷ []) =
+        let r : new_rows K label ks (o + 1)
+        ≡ new_rows K label ks o ++ (record { key = kmer_at K label o; number = o } ∷ []) =
         rw (add-one o) (rows_new K label ks o s) in
         let g = v.gathers in
         record {
           few = omega (arith, v.few);
           previous = (o, (add-one o, sx));
           gathers = record {
-            looked = looked_next K label ks o rule g.looked note_there place_there (rw s (omega arith)) (rw sx.kmer at f.place);
+            looked = looked_next K label ks o rule g.looked note_there place_there (rw s (omega arith))
+                (rw sx.kmer at f.place);
             number = rw (r, length-append) (omega (arith, g.number));
             new = rw (ek, r)
                 (rows_put new-keys q (value_of x.kmer) key_there offsets o offset_there

@@ -50,12 +50,14 @@ unfolding complement
 complement_kept c h = rw (le-ltb c 4 h)
 
 -- As the window is seen.
-module _ (rule : Rule) (K : ℕ) (label : List ℕ) (i : ℕ) {p q : ℕ} (ep : p ≡ predecessor rule K label i) (eq : q ≡ successor K label i)
+module _ (rule : Rule) (K : ℕ) (label : List ℕ) (i : ℕ) {p q : ℕ} (ep : p ≡ predecessor rule K label i)
+    (eq : q ≡ successor K label i)
     {s : Bool} (es : s ≡ is_canon K (window K label i)) where
   pub straight_code : s ≡ true → p + 8 * q ≡ code_at rule K label i
   unfolding code_at
   straight_code e = let t : is_canon K (window K label i) ≡ true = sym es ∙ e in rw (ep, eq, t)
 
-  pub turned_code : s ≡ false → {p' q' : ℕ} → p' ≡ complement p → q' ≡ complement q → q' + 8 * p' ≡ code_at rule K label i
+  pub turned_code : s ≡ false → {p' q' : ℕ} → p' ≡ complement p → q' ≡ complement q
+      → q' + 8 * p' ≡ code_at rule K label i
   unfolding code_at
   turned_code e fp fq = let t : is_canon K (window K label i) ≡ false = sym es ∙ e in rw (fp, fq, ep, eq, t)

@@ -36,6 +36,8 @@ module _ {rule : Rule} {K : ℕ} {label : List ℕ} {n : ℕ} {keys counts : Lis
     pub known : Known m notes places counts
     known = rw e
         (record {
-          coded = λ i h low. rw (known_note rule K label ks i (l.noted i h) low).1 (code_coded rule K label a.given.bases i (omega arith));
+          coded = λ i h low.
+              rw (known_note rule K label ks i (l.noted i h) low).1
+              (code_coded rule K label a.given.bases i (omega arith));
           counter_there = place_lt;
         })

@@ -87,7 +87,8 @@ refused (Err add.Full) k = record { number = 6; values = []; is = refl }
 abbrev left : List ℕ → ℕ → List ℕ → List ℕ → ℕ → List (List ℕ)
 left text count starts lengths i = listed (count - i) text (drop i starts) (drop i lengths)
 
-left_next : (text : List ℕ) (count : ℕ) (starts lengths : List ℕ) → within text count starts lengths ≡ true → (i : ℕ) → i < count
+left_next : (text : List ℕ) (count : ℕ) (starts lengths : List ℕ) → within text count starts lengths ≡ true → (i : ℕ)
+    → i < count
     → left text count starts lengths i
     ≡ take (get_or lengths i 0) (drop (get_or starts i 0) text) ∷ left text count starts lengths (i + 1)
 unfolding listed
@@ -97,7 +98,8 @@ left_next text count starts lengths w i h =
     rw (e, drop-cons starts i 0 (omega (arith, l.0)), drop-cons lengths i 0 (omega (arith, l.1)), add-one)
 
 -- The labels of the first i entries are added to n vertices, the last as given.
-pub record SomeAdded (κ : Kind) (rule : Rule) (K n : ℕ) (keys₀ counts₀ text starts lengths : List ℕ) (count i : ℕ) (last : Addition)
+pub record SomeAdded (κ : Kind) (rule : Rule) (K n : ℕ) (keys₀ counts₀ text starts lengths : List ℕ) (count i : ℕ)
+    (last : Addition)
     (keys counts : List ℕ) : Type 0 where
   pub inside : within text count starts lengths ≡ true
   pub all : add_each κ rule K (untried n keys₀ counts₀) (listed count text starts lengths)
@@ -126,10 +128,13 @@ module _ {κ : Kind} {rule : Rule} {K n : ℕ} {keys₀ counts₀ text starts le
       entry_inside = within_at text count starts lengths s.inside i more
 
       -- The next label, as it is lent, is added or refused.
-      module _ {start end : ℕ} (p : start ≡ get_or starts i 0) (q : end ≡ start + get_or lengths i 0) {r : Result Addition AddError}
+      module _ {start end : ℕ} (p : start ≡ get_or starts i 0) (q : end ≡ start + get_or lengths i 0)
+          {r : Result Addition AddError}
           {keys' counts' : List ℕ}
-          (a : Adds r keys' counts' (add_label κ rule K last.stored keys counts (take (end - start) (drop start text)))) where
-        rest : left text count starts lengths i ≡ take (end - start) (drop start text) ∷ left text count starts lengths (i + 1)
+          (a : Adds r keys' counts'
+          (add_label κ rule K last.stored keys counts (take (end - start) (drop start text)))) where
+        rest : left text count starts lengths i
+            ≡ take (end - start) (drop start text) ∷ left text count starts lengths (i + 1)
         rest =
             let e : end - start ≡ get_or lengths i 0 = omega arith in
             left_next text count starts lengths s.inside i more ∙ rw (e, p)
@@ -142,7 +147,8 @@ module _ {κ : Kind} {rule : Rule} {K n : ℕ} {keys₀ counts₀ text starts le
               inside = s.inside;
               all = s.all ∙ ap (λ (ls : List (List ℕ)). each κ rule K (state i last keys counts) ls) rest
                   ∙ each_more κ rule K i last keys counts label (left text count starts lengths (i + 1)) a next t;
-              ready = λ _. more_ready κ rule K i last keys counts label (left text count starts lengths (i + 1)) a next t;
+              ready = λ _.
+                  more_ready κ rule K i last keys counts label (left text count starts lengths (i + 1)) a next t;
               long_keys = lk ∙ s.long_keys;
               long_counts = lc ∙ s.long_counts;
             }
@@ -151,5 +157,5 @@ module _ {κ : Kind} {rule : Rule} {K n : ℕ} {keys₀ counts₀ text starts le
             (add_each κ rule K (untried n keys₀ counts₀) (listed count text starts lengths))
         added_ends f =
             rw (s.all, rest)
-            (each_ends κ rule K i last keys counts (take (end - start) (drop start text)) (left text count starts lengths (i + 1)) a n
-            f.number f.values f.is)
+            (each_ends κ rule K i last keys counts (take (end - start) (drop start text))
+            (left text count starts lengths (i + 1)) a n f.number f.values f.is)

@@ -16,7 +16,7 @@ use Rattle.graph.specs.Adding.{Added, add_bases, add_label}
 use Rattle.table.specs.Calls.{fit_answer, fit_call}
 use Rattle.table.specs.declared.FitError.{FitError}
 use Rattle.table.specs.declared.FitError.TheVariants.{Unfit, UnsupportedK}
-use Rattle.table.proofs.Told.{told_unsupported, told_unfit, told_fit}
+use Rattle.table.proofs.Told.{told_unsupported, told_unfit}
 use Rattle.adding.specs.Says.{add_answer, of_fit, Adds, Ready, Addable, place_in}
 use Rattle.adding.specs.declared.Addition.{Addition}
 use Rattle.adding.specs.declared.AddError.{AddError}
@@ -26,13 +26,15 @@ abbrev whole : Kind → Rule → ℕ → ℕ → List ℕ → List ℕ → List 
 whole κ rule K n keys counts label = add_label κ rule K n keys counts label
 
 -- An answer that changes nothing.
-stays : {r : Result Addition AddError} {keys counts : List ℕ} → Adds r keys counts (record { answer = add_answer r; keys = keys; counts = counts })
+stays : {r : Result Addition AddError} {keys counts : List ℕ}
+    → Adds r keys counts (record { answer = add_answer r; keys = keys; counts = counts })
 stays = record { answer = refl; keys_after = refl; counts_after = refl }
 
 module _ (κ : Kind) (rule : Rule) (K n : ℕ) (keys counts label : List ℕ) where
-  -- The table is not fit for it, or is.
+  -- The table is not fit for it.
   module _ {r : Result (Unit {0}) FitError} (t : fit_answer r ≡ fit_call κ K n keys counts) where
-    unsupported : {k : ℕ} → r ≡ Err (UnsupportedK k) → Adds (Err (add.UnsupportedK k)) keys counts (whole κ rule K n keys counts label)
+    unsupported : {k : ℕ} → r ≡ Err (UnsupportedK k)
+        → Adds (Err (add.UnsupportedK k)) keys counts (whole κ rule K n keys counts label)
     unfolding add_label
     unsupported {k} e =
         let q = told_unsupported κ K n keys counts t e in
@@ -48,16 +50,15 @@ module _ (κ : Kind) (rule : Rule) (K n : ℕ) (keys counts label : List ℕ) wh
     not_fit Unfit q = unfit q
     not_fit (UnsupportedK k) q = unsupported q
 
-    pub ready : r ≡ Ok tt → Ready κ K n keys counts
-    ready e = told_fit κ K n keys counts t e
-
   module _ (ok : Ready κ K n keys counts) where
-    pub too_long : 4096 < length label → Adds (Err (add.TooLong (length label))) keys counts (whole κ rule K n keys counts label)
+    pub too_long : 4096 < length label
+        → Adds (Err (add.TooLong (length label))) keys counts (whole κ rule K n keys counts label)
     unfolding add_label
     too_long h = rw (ok.0, ok.1, lt-ltb 4096 (length label) h) stays
 
     module _ (short : length label ≤ 4096) where
-      pub too_short : length label < K → Adds (Ok (record { edges = 0; stored = n })) keys counts (whole κ rule K n keys counts label)
+      pub too_short : length label < K
+          → Adds (Ok (record { edges = 0; stored = n })) keys counts (whole κ rule K n keys counts label)
       unfolding add_label
       too_short h =
           rw (ok.0, ok.1, le-ltb 4096 (length label) short, lt-ltb (length label) K h) stays

@@ -45,18 +45,22 @@ module _ (rule : Rule) (K : ℕ) (label : List ℕ) where
         (true_or_false (stored ks (kmer_at K label i)))
 
 module _ (κ : Kind) (rule : Rule) (K : ℕ) (label : List ℕ) where
-  tally_here : (y m w : ℕ) → kmer_at K label m ≡ y → tally κ rule K label y (suc m) w ≡ counted_by κ (code_at rule K label m) (tally κ rule K label y m w)
+  tally_here : (y m w : ℕ) → kmer_at K label m ≡ y
+      → tally κ rule K label y (suc m) w ≡ counted_by κ (code_at rule K label m) (tally κ rule K label y m w)
   unfolding tally
   tally_here y m w e = rw (eq-eqb (kmer_at K label m) y e)
 
-  tally_other : (y m w : ℕ) → (kmer_at K label m ≡ y → ⊥) → tally κ rule K label y (suc m) w ≡ tally κ rule K label y m w
+  tally_other : (y m w : ℕ) → (kmer_at K label m ≡ y → ⊥)
+      → tally κ rule K label y (suc m) w ≡ tally κ rule K label y m w
   unfolding tally
   tally_other y m w n = rw (ne_eqb (kmer_at K label m) y n)
 
-  module _ (ks : List ℕ) (fits : fit_from K 0 ks ≡ true) (m : ℕ) (notes places : List ℕ) (looked : Looked rule K label ks m notes places)
+  module _ (ks : List ℕ) (fits : fit_from K 0 ks ≡ true) (m : ℕ) (notes places : List ℕ)
+      (looked : Looked rule K label ks m notes places)
       (o : ℕ) (h : o < m) {counts₀ counts : List ℕ} (v : Raised κ rule K label ks o counts₀ counts) where
     raised_known : get_or notes o 0 < 64 → get_or places o 0 < length counts
-        → Raised κ rule K label ks (suc o) counts₀ (set counts (get_or places o 0) (counted_by κ (get_or notes o 0) (get_or counts (get_or places o 0) 0)))
+        → Raised κ rule K label ks (suc o) counts₀
+        (set counts (get_or places o 0) (counted_by κ (get_or notes o 0) (get_or counts (get_or places o 0) 0)))
     raised_known s l =
         let n = known_note rule K label ks o (looked.noted o h) s in
         let x : ℕ = kmer_at K label o in
@@ -96,7 +100,8 @@ module _ (κ : Kind) (rule : Rule) (K : ℕ) (label : List ℕ) where
 
 -- After o windows.
 pub record Raising (κ : Kind) (m : ℕ) (notes places counts₀ : List ℕ) (o : ℕ) (counts : List ℕ) : Type 0 where
-  pub raised : (rule : Rule) (K : ℕ) (label ks : List ℕ) → fit_from K 0 ks ≡ true → Looked rule K label ks m notes places → Raised κ rule K label ks o counts₀ counts
+  pub raised : (rule : Rule) (K : ℕ) (label ks : List ℕ) → fit_from K 0 ks ≡ true
+      → Looked rule K label ks m notes places → Raised κ rule K label ks o counts₀ counts
 
 module _ {κ : Kind} {m : ℕ} {notes places counts₀ : List ℕ} where
   pub raising_none : Raising κ m notes places counts₀ 0 counts₀
@@ -107,14 +112,18 @@ module _ {κ : Kind} {m : ℕ} {notes places counts₀ : List ℕ} where
 
   module _ (y : Known m notes places counts₀) {o : ℕ} {counts : List ℕ} (long : length counts ≡ length counts₀)
       (v : Raising κ m notes places counts₀ o counts) (h : o < m) where
-    pub raising_known : get_or notes o 0 < 64 → {w : ℕ} → w ≡ counted_by κ (get_or notes o 0) (get_or counts (get_or places o 0) 0)
+    pub raising_known : get_or notes o 0 < 64 → {w : ℕ}
+        → w ≡ counted_by κ (get_or notes o 0) (get_or counts (get_or places o 0) 0)
         → Raising κ m notes places counts₀ (o + 1) (set counts (get_or places o 0) w)
     raising_known s {w} e = record {
       raised = λ rule K label ks f l.
-          rw (add-one o, e) (raised_known κ rule K label ks f m notes places l o h (v.raised rule K label ks f l) s (rw long (y.counter_there o h s)));
+          rw (add-one o, e)
+          (raised_known κ rule K label ks f m notes places l o h (v.raised rule K label ks f l) s
+          (rw long (y.counter_there o h s)));
     }
 
     pub raising_new : 64 ≤ get_or notes o 0 → Raising κ m notes places counts₀ (o + 1) counts
     raising_new s = record {
-      raised = λ rule K label ks f l. rw (add-one o) (raised_new κ rule K label ks f m notes places l o h (v.raised rule K label ks f l) s);
+      raised = λ rule K label ks f l.
+          rw (add-one o) (raised_new κ rule K label ks f m notes places l o h (v.raised rule K label ks f l) s);
     }

@@ -42,7 +42,8 @@ pub rows_next : (t : ℕ) (keys numbers : List ℕ) → t < length keys / 2 → 
     → rows (t + 1) keys numbers ≡ rows t keys numbers ++ (row_at keys numbers t ∷ [])
 rows_next t keys numbers h l = rw (add-one t) (rows_snoc t keys numbers h l)
 
-rows_set_key : (q : ℕ) (keys numbers : List ℕ) (i v : ℕ) → 2 * q ≤ i → rows q (set keys i v) numbers ≡ rows q keys numbers
+rows_set_key : (q : ℕ) (keys numbers : List ℕ) (i v : ℕ) → 2 * q ≤ i
+    → rows q (set keys i v) numbers ≡ rows q keys numbers
 unfolding rows
 rows_set_key zero keys numbers i v h = refl
 rows_set_key (suc q) [] numbers i v h = refl
@@ -53,7 +54,8 @@ rows_set_key (suc q) (x ∷ y ∷ keys) [] (suc (suc i)) v h = refl
 rows_set_key (suc q) (x ∷ y ∷ keys) (n ∷ numbers) (suc (suc i)) v h =
     ap (λ (rs : List Row). record { key = joined x y; number = n } ∷ rs) (rows_set_key q keys numbers i v (omega arith))
 
-rows_set_number : (q : ℕ) (keys numbers : List ℕ) (i v : ℕ) → q ≤ i → rows q keys (set numbers i v) ≡ rows q keys numbers
+rows_set_number : (q : ℕ) (keys numbers : List ℕ) (i v : ℕ) → q ≤ i
+    → rows q keys (set numbers i v) ≡ rows q keys numbers
 unfolding rows
 rows_set_number zero keys numbers i v h = refl
 rows_set_number (suc q) [] numbers i v h = refl
@@ -63,7 +65,8 @@ rows_set_number (suc q) (x ∷ y ∷ keys) (n ∷ numbers) zero v h = absurd (om
 rows_set_number (suc q) (x ∷ y ∷ keys) (n ∷ numbers) (suc i) v h =
     ap (λ (rs : List Row). record { key = joined x y; number = n } ∷ rs) (rows_set_number q keys numbers i v (omega arith))
 
-keys_snoc : (q : ℕ) (keys : List ℕ) → q < length keys / 2 → keys_of (suc q) keys ≡ keys_of q keys ++ (key_at keys q ∷ [])
+keys_snoc : (q : ℕ) (keys : List ℕ) → q < length keys / 2
+    → keys_of (suc q) keys ≡ keys_of q keys ++ (key_at keys q ∷ [])
 unfolding keys_of
 keys_snoc zero [] h = absurd (omega arith)
 keys_snoc zero (x ∷ []) h = absurd (omega arith)

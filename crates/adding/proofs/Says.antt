@@ -24,7 +24,8 @@ case_of (refuses r values) =
     let first = get_or values 0 0 in
     Err
     (get_or
-    (add.Full ∷ add.UnsupportedK first ∷ add.Full ∷ add.InvalidBase first (get_or values 1 0) ∷ add.TooLong first ∷ add.Unfit ∷ [])
+    (add.Full ∷ add.UnsupportedK first ∷ add.Full ∷ add.InvalidBase first (get_or values 1 0) ∷ add.TooLong first
+    ∷ add.Unfit ∷ [])
     r add.Full)
 
 case_back : (a : Result Addition AddError) → case_of (add_answer a) ≡ a
@@ -51,9 +52,11 @@ tried m stored last = Ok (record { labels = m; stored = stored; last = last })
 
 abbrev labels_case : ℕ → ℕ → Answer Edges → Result Additions OutOfText
 labels_case m stored (gives e) = tried m stored (case_of (gives e))
-labels_case m stored (refuses r values) = cond (eqb r 12) (Err (record {})) (tried m stored (case_of (refuses r values)))
+labels_case m stored (refuses r values) =
+    cond (eqb r 12) (Err (record {})) (tried m stored (case_of (refuses r values)))
 
-added_back : (m stored : ℕ) (last : Result Addition AddError) → labels_case m stored (add_answer last) ≡ tried m stored last
+added_back : (m stored : ℕ) (last : Result Addition AddError)
+    → labels_case m stored (add_answer last) ≡ tried m stored last
 added_back m stored (Ok a) = refl
 added_back m stored (Err (add.UnsupportedK K)) = refl
 added_back m stored (Err (add.InvalidBase place byte)) = refl
@@ -61,7 +64,8 @@ added_back m stored (Err (add.TooLong n)) = refl
 added_back m stored (Err add.Unfit) = refl
 added_back m stored (Err add.Full) = refl
 
-labels_back : (n : ℕ) (r : Result Additions OutOfText) (s : Several) → labels_say n r s → labels_case s.labels s.stored s.answer ≡ r
+labels_back : (n : ℕ) (r : Result Additions OutOfText) (s : Several) → labels_say n r s
+    → labels_case s.labels s.stored s.answer ≡ r
 labels_back n (Ok a) s h = rw (← h.0, ← h.1, ← h.2) (added_back a.labels a.stored a.last)
 labels_back n (Err e) s h = rw (← h.2)
 

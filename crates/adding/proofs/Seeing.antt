@@ -33,7 +33,9 @@ straight_test K x =
 
 -- What the only k-mer that a call can return holds.
 value_given : {r : Result Kmer KmerError} {n : ℕ} {x : Kmer} → r ≡ Ok (kmer_of n) → r ≡ Ok x → value_of x ≡ n
-value_given {n = n} {x = x} e q = let same : x ≡ kmer_of n = let z : Ok x ≡ Ok (kmer_of n) = sym q ∙ e in cc in value_back n same
+value_given {n = n} {x = x} e q =
+    let z : Ok x ≡ Ok (kmer_of n) = sym q ∙ e in
+    value_back {y = x} n cc
 
 module _ {K : ℕ} {label : List ℕ} (g : Given K label) (i : ℕ) (h : i + K ≤ length label) where
   -- Packed: it is not refused.
@@ -51,7 +53,8 @@ module _ {K : ℕ} {label : List ℕ} (g : Given K label) (i : ℕ) (h : i + K �
 
       turned : b ≡ Ok (kmer_of (canon K (window K label i)))
       turned =
-          kmer_given K (window K label i) (ok_given g) (window_lt K label i g.bases h) (canon K (window K label i)) (rw packed_is at q)
+          kmer_given K (window K label i) (ok_given g) (window_lt K label i g.bases h) (canon K (window K label i))
+          (rw packed_is at q)
 
       pub turns : IsOk b
       turns = rw turned

@@ -25,7 +25,8 @@ use Rattle.adding.proofs.Above.{above_new, above_fit, above_stored}
 use Rattle.adding.proofs.Tallies.{or_absorbs, has_snoc, marked_counts, row_counted, row_passed, tally_none}
 
 -- One row more, with the note of its window.
-module _ (κ : Kind) (rule : Rule) (K : ℕ) (label ks : List ℕ) (rs : List Row) (r : Row) (u : ℕ) (keys places counts : List ℕ)
+module _ (κ : Kind) (rule : Rule) (K : ℕ) (label ks : List ℕ) (rs : List Row) (r : Row) (u : ℕ)
+    (keys places counts : List ℕ)
     (g : Grouped κ rule K label ks rs u keys places counts) {note : ℕ} (en : note ≡ code_at rule K label r.number + 64) where
   abbrev kk : List ℕ
   kk = keys_of u keys

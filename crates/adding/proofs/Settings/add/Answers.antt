@@ -11,4 +11,6 @@ returns-in_err-fit c =
     let a = c.args in
     let e = c.in_err-fit.field-0.0 in
     let t = err_from_is_err_and {Q = λ x. x ≡ of_fit e} c.from_residual.result c.from_residual.ensures.1 in
-    rw (t.1, t.2) (not_fit (kind_of a.self.kind) (rule_of a.self.mode) a.self.k a.n a.keys.now a.counts.now a.label.now c.fit.ensures e c.in_err-fit.was)
+    rw (t.1, t.2)
+    (not_fit (kind_of a.self.kind) (rule_of a.self.mode) a.self.k a.n a.keys.now a.counts.now a.label.now c.fit.ensures
+    e c.in_err-fit.was)

@@ -6,4 +6,5 @@ use Rattle.adding.proofs.Settings.add_each.Given as goal
 
 abbrev pub invariant-loop-i : goal.invariant-loop-i
 invariant-loop-i l =
-    SomeAdded (kind_of l.self.kind) (rule_of l.self.mode) l.self.k l.n l.initial.keys l.initial.counts l.text l.starts l.lengths l.count l.i l.last l.keys l.counts
+    SomeAdded (kind_of l.self.kind) (rule_of l.self.mode) l.self.k l.n l.initial.keys l.initial.counts
+    l.text l.starts l.lengths l.count l.i l.last l.keys l.counts

@@ -29,19 +29,24 @@ pub raise_known-requires : goal.raise_known-requires
 raise_known-requires g c =
     let y = c.requires.addable in (
       search rules,
-      (known y c.make_vertices-new.ensures.looked (omega (arith, y.given.long)), omega (arith, y.given.long, c.requires.room)),
+      (
+        known y c.make_vertices-new.ensures.looked (omega (arith, y.given.long)),
+        omega (arith, y.given.long, c.requires.room),
+      ),
     )
 
 pub returns-in_err-stored : goal.returns-in_err-stored
 returns-in_err-stored g c =
     let y = c.requires.addable in
     let fresh = c.make_vertices-new.new.fresh in
-    let all : length c.args.label.now - c.args.self.k + 1 ≡ windows c.args.self.k c.args.label.now = omega (arith, y.given.long) in
+    let label = c.args.label.now in
+    let k = c.args.self.k in
+    let all : length label - k + 1 ≡ windows k label = omega (arith, y.given.long) in
     absurd
     (not_refused y c.make_vertices-new.ensures.grouped (omega (arith, c.capacity.ensures, c.if-capacity-n.false))
     (rw fresh.places_long c.requires.room) (rw fresh.counts_long c.requires.room) all
-    (c.raise_known.ensures (rule_of c.args.self.mode) c.args.self.k c.args.label.now (keys_of c.args.n c.args.keys.now)
-    (fit_sound c.args.self.k c.args.n c.args.keys.now c.args.counts.now y.fits).fits
+    (c.raise_known.ensures (rule_of c.args.self.mode) k label (keys_of c.args.n c.args.keys.now)
+    (fit_sound k c.args.n c.args.keys.now c.args.counts.now y.fits).fits
     (looked_all y c.make_vertices-new.ensures.looked all))
     c.join.ensures c.in_err-stored.was)
 
@@ -49,10 +54,12 @@ pub returns : goal.returns
 returns g c =
     let y = c.requires.addable in
     let fresh = c.make_vertices-new.new.fresh in
-    let all : length c.args.label.now - c.args.self.k + 1 ≡ windows c.args.self.k c.args.label.now = omega (arith, y.given.long) in
+    let label = c.args.label.now in
+    let k = c.args.self.k in
+    let all : length label - k + 1 ≡ windows k label = omega (arith, y.given.long) in
     adds_joined y c.make_vertices-new.ensures.grouped (omega (arith, c.capacity.ensures, c.if-capacity-n.false))
     (rw fresh.places_long c.requires.room) (rw fresh.counts_long c.requires.room) all
-    (c.raise_known.ensures (rule_of c.args.self.mode) c.args.self.k c.args.label.now (keys_of c.args.n c.args.keys.now)
-    (fit_sound c.args.self.k c.args.n c.args.keys.now c.args.counts.now y.fits).fits
+    (c.raise_known.ensures (rule_of c.args.self.mode) k label (keys_of c.args.n c.args.keys.now)
+    (fit_sound k c.args.n c.args.keys.now c.args.counts.now y.fits).fits
     (looked_all y c.make_vertices-new.ensures.looked all))
     c.join.ensures c.in_ok-stored.was

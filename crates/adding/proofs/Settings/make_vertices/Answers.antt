@@ -25,6 +25,6 @@ returns-clause-grouped g c =
     let y = c.requires.sought in
     let fresh = c.gather-rows.new.self in
     let z = c.sort_rows in
-    sorted_grouped {ks = ks} y.given c.gather-rows.ensures (omega (arith, fresh.keys_long, fresh.pairs)) (rw fresh.offsets_long c.requires.room) z.ensures z.auto.keys
-    z.auto.numbers
+    sorted_grouped {ks = ks} y.given c.gather-rows.ensures (omega (arith, fresh.keys_long, fresh.pairs))
+    (rw fresh.offsets_long c.requires.room) z.ensures z.auto.keys z.auto.numbers
     (c.group.ensures (rule_of c.args.self.mode) c.args.self.k c.args.label.now ks)

@@ -17,7 +17,8 @@ pub returns-in-Some : goal.returns-in-Some
 returns-in-Some c =
     let before = rw c.in-Some.is at c.requires.2.previous in
     predecessor_is (rule_of c.args.mode) c.args.k c.args.label.now before.1.0 true
-    (test_is c.args.mode c.requires.0 c.requires.1 before.1.0 before.1.1 c.requires.2.here (sym c.skips.ensures ∙ c.if-skips.true))
+    (test_is c.args.mode c.requires.0 c.requires.1 before.1.0 before.1.1 c.requires.2.here
+    (sym c.skips.ensures ∙ c.if-skips.true))
 
 pub returns-in-Some-2 : goal.returns-in-Some-2
 returns-in-Some-2 c =
@@ -27,4 +28,5 @@ returns-in-Some-2 c =
     c.valid_ascii_base_bits.ensures
     ∙ bits_code label (c.args.o - 1) i c.requires.0.bases
     ∙ predecessor_is (rule_of c.args.mode) c.args.k label before.1.0 false
-    (test_is c.args.mode c.requires.0 c.requires.1 before.1.0 before.1.1 c.requires.2.here (sym c.skips.ensures ∙ c.if-skips.false))
+    (test_is c.args.mode c.requires.0 c.requires.1 before.1.0 before.1.1 c.requires.2.here
+    (sym c.skips.ensures ∙ c.if-skips.false))

@@ -6,7 +6,8 @@ use Rattle.adding.proofs.Coding.{predecessor_most, successor_most, complement_mo
 use Rattle.adding.proofs.windows.code_of.Goals as goal
 
 pub overflow_mul-result : goal.overflow_mul-result
-overflow_mul-result c = record { fits = omega (arith, c.after_of-after.ensures, successor_most c.args.k c.args.label.now c.args.o) }
+overflow_mul-result c =
+    record { fits = omega (arith, c.after_of-after.ensures, successor_most c.args.k c.args.label.now c.args.o) }
 
 pub overflow_add-result : goal.overflow_add-result
 overflow_add-result c =

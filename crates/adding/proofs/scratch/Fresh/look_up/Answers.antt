@@ -14,9 +14,8 @@ loop-o-init g c = looking_none (rule_of c.args.mode) _
 
 pub overflow_add-note : goal.overflow_add-note
 overflow_add-note g c =
-    record {
-      fits = omega (arith, c.code_of-code.ensures, code_small c.args.k c.args.label.now c.loop-o.o (rule_of c.args.mode));
-    }
+    let small = code_small c.args.k c.args.label.now c.loop-o.o (rule_of c.args.mode) in
+    record { fits = omega (arith, c.code_of-code.ensures, small) }
 
 pub overflow_cast-noted : goal.overflow_cast-noted
 overflow_cast-noted g c =
@@ -27,10 +26,12 @@ overflow_cast-noted g c =
     let x = value_of c.see-seen.result.kmer in
     let y = c.requires.sought in
     elim c.match-find.branch [
-      | in-Ok w ↦ rw w.note-is
-          (record { fits = omega (arith, finds_below n keys (finds_ok k n keys cells x y.fits c.find.ensures w.in-Ok.is), y.few) })
-      | in-Err w ↦ rw w.note-is
-          (record { fits = omega (arith, finds_below n keys (finds_err k n keys cells x y.fits c.find.ensures w.in-Err.is), y.few) })
+      | in-Ok w ↦
+          let f = finds_ok k n keys cells x y.fits c.find.ensures w.in-Ok.is in
+          rw w.note-is (record { fits = omega (arith, finds_below n keys f, y.few) })
+      | in-Err w ↦
+          let f = finds_err k n keys cells x y.fits c.find.ensures w.in-Err.is in
+          rw w.note-is (record { fits = omega (arith, finds_below n keys f, y.few) })
     ]
 
 pub loop-o-preserved : goal.loop-o-preserved

@@ -6,4 +6,5 @@ use Rattle.adding.proofs.scratch.Fresh.look_up.Given as goal
 
 abbrev pub invariant-loop-o : goal.invariant-loop-o
 invariant-loop-o g l =
-    Looking (rule_of l.mode) l.k l.label (keys_of l.n l.keys) l.o l.new l.previous l.noted.notes l.noted.places l.self.keys l.self.offsets
+    Looking (rule_of l.mode) l.k l.label (keys_of l.n l.keys) l.o l.new l.previous
+    l.noted.notes l.noted.places l.self.keys l.self.offsets

@@ -19,6 +19,8 @@ loop-o-preserved g c =
     let y = c.requires.known in
     elim c.if-note-lt64.branch [
       | then-note-lt64 w ↦ rw w.counts-is
-          (raising_known y c.loop-o.auto.counts c.loop-o.invariant h (rw e at w.if-note-lt64.true) (rw e at w.counted.ensures))
-      | else-note-lt64 w ↦ rw w.counts-is (raising_new y c.loop-o.auto.counts c.loop-o.invariant h (rw e at w.if-note-lt64.false))
+          (raising_known y c.loop-o.auto.counts c.loop-o.invariant h (rw e at w.if-note-lt64.true)
+          (rw e at w.counted.ensures))
+      | else-note-lt64 w ↦ rw w.counts-is
+          (raising_new y c.loop-o.auto.counts c.loop-o.invariant h (rw e at w.if-note-lt64.false))
     ]
