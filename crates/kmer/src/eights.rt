@@ -65,6 +65,7 @@ pub(crate) fn pack(k: usize, seq: &[u8]) -> Packed
     let mut low = codes(x) >> (16 - 2 * first);
     let mut found = strange(x);
     let mut i = first;
+    // A `for` over `(first..k).step_by(8)` takes a tenth longer.
     while i < k {
         let y = eight(seq, i);
         high = (high << 16) | (low >> 48);
