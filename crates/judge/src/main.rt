@@ -7,6 +7,7 @@ ghost use Rattle.label_file.specs.Judged.{judged};
 ghost use Rattle.reading.specs.Within.{Within};
 
 use reading::program::{complain, is_given, print};
+use std::env::Env;
 use std::fs::{File, Files};
 use std::io;
 

@@ -7,3 +7,10 @@ pub mod Digits
 pub mod Decimals
 pub mod Heads
 pub mod Lines
+pub mod TakingLabels
+pub mod Listing
+pub mod Whole
+pub mod Verdicts
+pub mod Within
+pub mod Says
+pub mod Printing

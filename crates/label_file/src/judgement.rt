@@ -1,8 +1,10 @@
 // A list judged by the table of a label file.
 ghost use Rattle.std.specs.Prelude.{◌≡◌, ℕ, List};
 ghost use Rattle.dna.specs.Answer.{fill};
-ghost use Rattle.label_file.specs.Judged.{lent_few, judgement};
-ghost use Rattle.label_file.specs.Output.{with_text};
+ghost use Rattle.judging.specs.Answers.{judge_answer};
+ghost use Rattle.label_file.specs.Judged.{answer_line, lent_few, judgement};
+ghost use Rattle.label_file.specs.Output.{refusal, with_text};
+ghost use Rattle.label_file.specs.Reasons.{number_of};
 ghost use Rattle.label_file.specs.Says.{Lists, line_of};
 
 use super::form::Head;
@@ -13,7 +15,23 @@ use dna::{NoRoom, copy};
 use judging::{Broken, JudgeError};
 use state::EdgeKind;
 
-// A list judged by the table of a file's labels. K, which `EvenK` is about, stands in record 0.
+// The refusal of a list after so many records. K, which `EvenK` is about, stands in record 0.
+fn refused(error: JudgeError, records: usize) -> Refusal
+    ensures { answer_line records (judge_answer (Err error)) ≡ refusal (number_of result.reason) result.at }
+{
+    match error {
+        JudgeError::EvenK => Refusal {
+            reason: Reason::EvenK,
+            at: 0,
+        },
+        _ => Refusal {
+            reason: Reason::from(error),
+            at: records,
+        },
+    }
+}
+
+// A list judged by the table of a file's labels.
 fn judge_file(
     file: &[u8],
     list: &[u8],
@@ -27,7 +45,7 @@ fn judge_file(
 {
     let Head { k, cutoff } = form::read_head(file)?;
     let Taken { vertices, records } = list::take_labels(file, k, keys, counts)?;
-    let judged = judging::judge(
+    match judging::judge(
         EdgeKind::Counted,
         k,
         cutoff,
@@ -36,17 +54,9 @@ fn judge_file(
         counts,
         list,
         marks,
-    );
-    match judged {
+    ) {
         Ok(verdict) => Ok(verdict),
-        Err(error) => Err(Refusal {
-            reason: Reason::from(error),
-            at: if error == JudgeError::EvenK {
-                0
-            } else {
-                records
-            },
-        }),
+        Err(error) => Err(refused(error, records)),
     }
 }
 
