@@ -6,12 +6,9 @@ ghost use Rattle.std.specs.Prelude.{◌≡◌, ◌≤◌, length, take, replicat
 ghost use Rattle.label_file.specs.Judged.{judged};
 ghost use Rattle.reading.specs.Within.{Within};
 
-use reading::program::{complain, is_given, print};
-use std::env::Env;
+use std::env::{Env, FillError};
 use std::fs::{File, Files};
 use std::io;
-
-const NAME: &str = "judge";
 
 // What is to be printed for a label file and a list, in a text of zeros; the other buffers are filled with zeros here.
 // The answer is its size.
@@ -41,27 +38,35 @@ fn read_file(rt: &impl Files, name: &[u8], file: &mut [u8]) -> io::Result<usize>
 fn judge_by(rt: &(impl io::Input + Print + Eprint), file: &[u8]) -> io::Result<()> {
     let mut list = [0u8; 262145];
     let Ok(n) = reading::read_input(rt, &mut list) else {
-        return complain(rt, NAME, "standard input could not be read");
+        return eprintln!(rt; "judge: standard input could not be read");
     };
     if 262144 < n {
-        return complain(rt, NAME, "the list is over 262144 bytes");
+        return eprintln!(rt; "judge: the list is over 262144 bytes");
     }
     let mut text = [0u8; 64];
     let size = judgement(file, &list[..n], &mut text);
-    print(rt, NAME, &text[..size])
+    rt.write_all(&text[..size]).or_else(|_| eprintln!(rt;
+        "judge: standard output could not be written"
+    ))
+}
+
+// Whether the command has an argument of this number; the program's name is 0. `labels` has the same: a public
+// function of a library would need a contract, and none can say what was given.
+fn is_given(rt: &impl Env, i: usize) -> bool {
+    !matches!(rt.arg(i, &mut [0u8; 1]), Err(FillError::NotPresent))
 }
 
 // A name that is too long for the space comes as no bytes, and no file has that name. A buffer one byte larger than
 // the largest label file tells one that is too large.
 fn main(rt: HostRuntime) -> io::Result<()> {
     if !is_given(&rt, 1) || is_given(&rt, 2) {
-        return rt.eprintln("usage: judge LABEL-FILE < LIST");
+        return eprintln!(rt; "usage: judge LABEL-FILE < LIST");
     }
     let mut name = [0u8; 4096];
     let size = rt.arg(1, &mut name).unwrap_or(0);
     let mut file = [0u8; 16385];
     let Ok(n) = read_file(&rt, &name[..size], &mut file) else {
-        return complain(&rt, NAME, "the label file could not be read");
+        return eprintln!(rt; "judge: the label file could not be read");
     };
     judge_by(&rt, &file[..n])
 }

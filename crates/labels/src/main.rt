@@ -5,11 +5,8 @@ ghost use Rattle.std.specs.Prelude.{◌≡◌};
 ghost use Rattle.labels.specs.Spelled.{spelled, Given};
 
 use label_text::PackError;
-use reading::program::{complain, is_given, print};
-use std::env::Env;
+use std::env::{Env, FillError};
 use std::io;
-
-const NAME: &str = "labels";
 
 // Decimal digits, at least one, that say a number not above a limit. By hand: std's `parse` takes a `+` in front.
 fn number_of(digits: &[u8], most: u32) -> Option<u32>
@@ -45,12 +42,14 @@ fn argument(rt: &impl Env, i: usize, most: u32) -> Option<u32>
 fn pack(rt: &(impl Print + Eprint), text: &[u8], k: u8, cutoff: u32) -> io::Result<()> {
     let mut file = [0u8; 16384];
     match label_text::pack(text, k, cutoff, &mut file) {
-        Ok(size) => print(rt, NAME, &file[..size]),
+        Ok(size) => rt.write_all(&file[..size]).or_else(|_| eprintln!(rt;
+            "labels: standard output could not be written"
+        )),
         Err(PackError::Mixed) => {
-            complain(rt, NAME, "the text has a '>' and does not begin with one")
+            eprintln!(rt; "labels: the text has a '>' and does not begin with one")
         }
         Err(PackError::TooLarge | PackError::NoRoom) => {
-            complain(rt, NAME, "the label file would be over 16384 bytes")
+            eprintln!(rt; "labels: the label file would be over 16384 bytes")
         }
     }
 }
@@ -59,27 +58,28 @@ fn pack(rt: &(impl Print + Eprint), text: &[u8], k: u8, cutoff: u32) -> io::Resu
 fn read_and_pack(rt: &(impl io::Input + Print + Eprint), k: u8, cutoff: u32) -> io::Result<()> {
     let mut text = [0u8; 262145];
     let Ok(n) = reading::read_input(rt, &mut text) else {
-        return complain(rt, NAME, "standard input could not be read");
+        return eprintln!(rt; "labels: standard input could not be read");
     };
     if 262144 < n {
-        return complain(rt, NAME, "the input is over 262144 bytes");
+        return eprintln!(rt; "labels: the input is over 262144 bytes");
     }
     pack(rt, &text[..n], k, cutoff)
 }
 
+// Whether the command has an argument of this number; the program's name is 0. `judge` has the same.
+fn is_given(rt: &impl Env, i: usize) -> bool {
+    !matches!(rt.arg(i, &mut [0u8; 1]), Err(FillError::NotPresent))
+}
+
 fn main(rt: HostRuntime) -> io::Result<()> {
     if !is_given(&rt, 2) || is_given(&rt, 3) {
-        return rt.eprintln("usage: labels K CUTOFF < TEXT > LABEL-FILE");
+        return eprintln!(rt; "usage: labels K CUTOFF < TEXT > LABEL-FILE");
     }
     let Some(k) = argument(&rt, 1, 255) else {
-        return complain(&rt, NAME, "K must be a number from 0 to 255");
+        return eprintln!(rt; "labels: K must be a number from 0 to 255");
     };
     let Some(cutoff) = argument(&rt, 2, 4294967295) else {
-        return complain(
-            &rt,
-            NAME,
-            "the cutoff must be a number from 0 to 4294967295",
-        );
+        return eprintln!(rt; "labels: the cutoff must be a number from 0 to 4294967295");
     };
     read_and_pack(&rt, k as u8, cutoff)
 }

@@ -1,13 +1,11 @@
-// What the programs share: a file, or standard input, read whole, and what a program says. What an input holds is the
-// world's, so the contracts say only how much of the buffer it took.
+// A file, or standard input, read whole. What it holds is the world's, so the contracts say only how much of the
+// buffer it took.
 #![tactic(auto)]
 
 ghost use Rattle.reading.specs.Within.{Within};
 
 use std::io;
 use std::io::Read;
-
-pub mod program;
 
 // Reads until the input ends or the buffer is full; the input stands from the buffer's first byte on. An error of the
 // reader is passed on.

@@ -4,10 +4,7 @@
 ghost use Rattle.std.specs.Prelude.{◌≡◌, ◌≤◌, length, take, replicate};
 ghost use Rattle.label_file.specs.Output.{unitigs};
 
-use reading::program::{complain, print};
 use std::io;
-
-const NAME: &str = "unitigs";
 
 // What is to be printed for a file, in a text of zeros; the other buffers are filled with zeros here. The answer is
 // its size.
@@ -38,9 +35,11 @@ fn list(file: &[u8], text: &mut [u8]) -> usize
 fn main(rt: HostRuntime) -> io::Result<()> {
     let mut file = [0u8; 16385];
     let Ok(n) = reading::read_input(&rt, &mut file) else {
-        return complain(&rt, NAME, "standard input could not be read");
+        return eprintln!(rt; "unitigs: standard input could not be read");
     };
     let mut text = [0u8; 8192];
     let size = list(&file[..n], &mut text);
-    print(&rt, NAME, &text[..size])
+    rt.write_all(&text[..size]).or_else(|_| eprintln!(rt;
+        "unitigs: standard output could not be written"
+    ))
 }
