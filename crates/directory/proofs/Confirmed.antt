@@ -28,7 +28,12 @@ module _ (K : ℕ) (ks : List ℕ) (fits : fit_from K 0 ks ≡ true) (x : ℕ) w
     rank_up : rank ks x ≤ i
     rank_up =
         ⊎_elim
-        (λ l. absurd (omega (arith, above (omega (arith, rank_le ks x)), ltb-true (get_or ks i 0) x (rank_before ks x i l))))
+        (λ l. absurd (omega (
+          arith,
+          above (omega (arith, rank_le ks x)),
+          ltb-true (get_or ks i 0) x
+              (rank_before ks x i l),
+        )))
         (λ l. l) (lt_or_ge i (rank ks x))
 
     rank_down : i ≤ rank ks x
@@ -59,7 +64,8 @@ module _ (K : ℕ) (ks : List ℕ) (fits : fit_from K 0 ks ≡ true) (x : ℕ) w
       let t = both (before ks x i) (behind ks x i) s in
       gap_here i (gap_most ks lo hi x i (sym e)) t.0 t.1
 
-pub found_by : (K : ℕ) (ks : List ℕ) → fit_from K 0 ks ≡ true → (k : ℕ) (cells : List ℕ) (x : ℕ) → find_by k ks cells x ≡ find_in ks x
+pub found_by : (K : ℕ) (ks : List ℕ) → fit_from K 0 ks ≡ true → (k : ℕ) (cells : List ℕ) (x : ℕ)
+    → find_by k ks cells x ≡ find_in ks x
 found_by K ks fits k cells x =
     let f : Result ℕ ℕ = hinted k ks cells x in
     choose (λ (g : Result ℕ ℕ). g ≡ find_in ks x) (ltb 1024 (length cells) && stands ks x f)

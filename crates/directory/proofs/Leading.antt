@@ -31,13 +31,15 @@ module _ (b lo hi : ℕ) (h : b ≤ 7) (l : lo < 2 ^ 64) where
         let k : s ≤ 64 = omega arith in
         let e : joined lo hi / 2 ^ s ≡ hi / 2 ^ s * 2 ^ 64 + w = moved s hi lo k l ∙ omega arith in
         ap (λ (n : ℕ). n % 4 ^ b) (low_word s hi lo k l)
-        ∙ cut (joined lo hi / 2 ^ s) w b h (mod_is (joined lo hi / 2 ^ s) (2 ^ 64) (hi / 2 ^ s) w e (low_room s hi lo k l))
+        ∙ cut (joined lo hi / 2 ^ s) w b h
+        (mod_is (joined lo hi / 2 ^ s) (2 ^ 64) (hi / 2 ^ s) w e (low_room s hi lo k l))
 
     pub before_word : 64 ≤ s → hi / 2 ^ (s - 64) % 4 ^ b ≡ joined lo hi / 2 ^ s % 4 ^ b
     before_word hs =
         let e : 64 + (s - 64) ≡ s = omega arith in
         ap (λ (n : ℕ). n % 4 ^ b)
-        (ap (λ (n : ℕ). n / 2 ^ (s - 64)) (sym (high_of lo hi l)) ∙ shr-shr (joined lo hi) 64 (s - 64) ∙ ap (λ (n : ℕ). joined lo hi / 2 ^ n) e)
+        (ap (λ (n : ℕ). n / 2 ^ (s - 64)) (sym (high_of lo hi l)) ∙ shr-shr (joined lo hi) 64 (s - 64)
+        ∙ ap (λ (n : ℕ). joined lo hi / 2 ^ n) e)
 
 -- The first b bases of a k-mer.
 module _ (b k x : ℕ) where

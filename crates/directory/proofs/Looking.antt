@@ -4,7 +4,8 @@ use Rattle.table.specs.Search.{find_between}
 use Rattle.directory.specs.Directory.{bases_of, slot_of, stands, hinted, find_by}
 use Rattle.directory.proofs.Cells.{bases_some}
 
-module _ (k : ℕ) (ks cells : List ℕ) (x b t : ℕ) (e : b ≡ bases_of (length cells)) (l : b ≡ 0 → ⊥) (s : t ≡ slot_of b k x)
+module _ (k : ℕ) (ks cells : List ℕ) (x b t : ℕ) (e : b ≡ bases_of (length cells)) (l : b ≡ 0 → ⊥)
+    (s : t ≡ slot_of b k x)
     (f : Result ℕ ℕ) (h : f ≡ find_between ks (get_or cells t 0) (get_or cells (t + 1) 0) x) where
   hinted_is : hinted k ks cells x ≡ f
   hinted_is = sym (h ∙ rw (add-one t, s, e))

@@ -41,4 +41,5 @@ spread_more cells most t m h e =
 
 pub spread_end : (cells : List ℕ) (most t : ℕ) → length cells ≤ t → onwards cells most t ≡ cells
 unfolding spread
-spread_end cells most t h = let e : drop t cells ≡ [] = drop_of_length-le cells h in rw (e, take_all t cells h) (append-nil cells)
+spread_end cells most t h = let e : drop t cells
+    ≡ [] = drop_of_length-le cells h in rw (e, take_all t cells h) (append-nil cells)

@@ -34,7 +34,8 @@ module _ (n : ℕ) (words : List ℕ) (x i : ℕ) where
   unfolding stands
   stands_first e z = rw (e, eq-eqb i 0 z)
 
-  pub stands_on : (v : ℕ) → before (keys_of n words) x i ≡ true → (i ≡ 0 → ⊥) → i ≤ length (keys_of n words) → v ≡ key words (i - 1)
+  pub stands_on : (v : ℕ) → before (keys_of n words) x i ≡ true → (i ≡ 0 → ⊥) → i ≤ length (keys_of n words)
+      → v ≡ key words (i - 1)
       → ltb v x ≡ stands (keys_of n words) x (Err i)
   unfolding stands
   stands_on v e z h k =
@@ -48,7 +49,8 @@ halving_most passes (suc most) lo hi h =
     choose (λ (r : ℕ). r ≤ hi) (ltb lo hi)
     (λ t.
     let l = ltb-true lo hi t in
-    choose (λ (r : ℕ). r ≤ hi) (passes (middle lo hi)) (λ _. halving_most passes most (middle lo hi + 1) hi (omega arith))
+    choose (λ (r : ℕ). r ≤ hi) (passes (middle lo hi))
+    (λ _. halving_most passes most (middle lo hi + 1) hi (omega arith))
     (λ _. omega (arith, halving_most passes most lo (middle lo hi) (omega arith))))
     (λ _. h)
 

@@ -13,14 +13,16 @@ use Rattle.table.proofs.Keys.{key_is}
 use Rattle.directory.specs.Directory.{tallied}
 
 one_more_lem : (slot : ℕ → ℕ) (ks cells : List ℕ) (i : ℕ) → i < length ks
-    → tallied slot i (drop i ks) cells ≡ tallied slot (i + 1) (drop (i + 1) ks) (set cells (slot (get_or ks i 0) + 1) (i + 1))
+    → tallied slot i (drop i ks) cells
+    ≡ tallied slot (i + 1) (drop (i + 1) ks) (set cells (slot (get_or ks i 0) + 1) (i + 1))
 unfolding tallied
 one_more_lem slot ks cells i h = rw (add-one i, add-one (slot (get_or ks i 0)), drop-cons ks i 0)
 
 module _ (slot : ℕ → ℕ) (n : ℕ) (words cells : List ℕ) (i : ℕ) (l : n ≤ length words / 2) where
   -- Key i is in slot t.
   pub tally_next : (t : ℕ) → i < n → t ≡ slot (key words i)
-      → tallied slot i (drop i (keys_of n words)) cells ≡ tallied slot (i + 1) (drop (i + 1) (keys_of n words)) (set cells (t + 1) (i + 1))
+      → tallied slot i (drop i (keys_of n words)) cells
+      ≡ tallied slot (i + 1) (drop (i + 1) (keys_of n words)) (set cells (t + 1) (i + 1))
   tally_next t h e =
       let s = keys_length n words in
       one_more_lem slot (keys_of n words) cells i (omega arith)

@@ -1,10 +1,10 @@
--- A directory of a table's keys: beside each run of leading bases, the place up to which keys begin with it. It is a hint: what is
--- looked up by it is tested. Assumes nothing.
+-- A directory of a table's keys: beside each run of leading bases, the place up to which keys begin with it. It is a
+-- hint: what is looked up by it is tested. Assumes nothing.
 use Rattle.std.specs.Prelude.{ℕ, suc, ◌-◌, ◌/◌, ◌%◌, ◌^◌, Bool, true, cond, ◌&&◌, ◌||◌, List, [], ◌∷◌, ltb, leb, eqb, length, get_or, set, Result, Ok, Err}
 use Rattle.table.specs.Search.{find_between, find_in}
 
--- How many leading bases a directory of so many cells tells apart: it has a cell for each of their runs, and one more. None where
--- it has too few.
+-- How many leading bases a directory of so many cells tells apart: it has a cell for each of their runs, and one more.
+-- None where it has too few.
 abbrev pub bases_of : ℕ → ℕ
 bases_of cells = cond (ltb 16384 cells) 7 (cond (ltb 4096 cells) 6 (cond (ltb 1024 cells) 5 0))
 

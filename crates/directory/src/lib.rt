@@ -1,5 +1,6 @@
-// A directory of a table's keys: where to look for a k-mer first. It is a hint and no more: what is found by it is tested, and where
-// the test fails all keys are searched, so that over a fit table the answer is right whatever the directory says.
+// A directory of a table's keys: where to look for a k-mer first. It is a hint and no more: what is found by it is
+// tested, and where the test fails all keys are searched, so that over a fit table the answer is right whatever the
+// directory says.
 #![tactic(auto)]
 
 ghost use Rattle.std.specs.Prelude.{◌≡◌, ◌/◌, ◌≤◌, ◌<◌, length};

@@ -27,8 +27,8 @@ fn fill_gaps(directory: &mut [u32])
     }
 }
 
-// The directory of the first n keys, as far as there are so many, at most 65,536; cells that are 0 before are best. Nothing where
-// there are 1,024 cells or fewer.
+// The directory of the first n keys, as far as there are so many, at most 65,536; cells that are 0 before are best.
+// Nothing where there are 1,024 cells or fewer.
 pub fn make(k: usize, n: usize, keys: &[u64], directory: &mut [u32])
     ensures { directory.new ≡ directory_of k (keys_of (min n 65536) keys.now) directory.old }
 {

@@ -12,14 +12,24 @@ use Rattle.dna.proofs.Overwriting.{length_over}
 
 -- A second text behind the first.
 over_more : (text more slice : List ℕ)
-    → take (length text) (over text slice) ++ over more (drop (length text) (over text slice)) ≡ over (text ++ more) slice
+    → take (length text) (over text slice) ++ over more (drop (length text) (over text slice))
+    ≡ over (text ++ more) slice
 over_more text more slice =
-    simp (take-append_seam text (drop (length text) slice), drop-append_seam text (drop (length text) slice), drop-drop, append_assoc, length-append)
+    simp (
+      take-append_seam text (drop (length text) slice),
+      drop-append_seam text
+          (drop (length text) slice),
+      drop-drop,
+      append_assoc,
+      length-append,
+    )
 
--- The same where the rest of the slice was lent for the second text: `whole` is the slice with the first text, and `part` what the rest
--- came back as.
-pub over_rest : (text more slice whole part : List ℕ) (at : ℕ) → at ≡ length text → length text ≤ length slice → whole ≡ over text slice
-    → part ≡ over more (mid_of at (length whole - at) whole) → put_mid at (length whole - at) whole part ≡ over (text ++ more) slice
+-- The same where the rest of the slice was lent for the second text: `whole` is the slice with the first text, and
+-- `part` what the rest came back as.
+pub over_rest : (text more slice whole part : List ℕ) (at : ℕ) → at ≡ length text → length text ≤ length slice
+    → whole ≡ over text slice
+    → part ≡ over more (mid_of at (length whole - at) whole)
+    → put_mid at (length whole - at) whole part ≡ over (text ++ more) slice
 over_rest text more slice whole part at e h w p =
     let l : at ≤ length whole = omega (arith, ap length w, length_over text slice h) in
     let none : post_of at (length whole - at) whole ≡ [] = Post-is at (length whole) whole l ∙ drop-length whole in

@@ -20,11 +20,13 @@ pub length_record : (label : List ℕ) → length (record_of label) ≡ length l
 length_record label = simp length-append (omega arith)
 
 -- The size of one record more.
-pub sizes_next : (i : ℕ) (lengths : List ℕ) → i < length lengths → size_of (i + 1) lengths ≡ size_of i lengths + (get_or lengths i 0 + 4)
+pub sizes_next : (i : ℕ) (lengths : List ℕ) → i < length lengths
+    → size_of (i + 1) lengths ≡ size_of i lengths + (get_or lengths i 0 + 4)
 unfolding size_of
 sizes_next i lengths h = ap (λ (k : ℕ). size_of k lengths) (add-one i) ∙ go i lengths h
   where
-    go : (i : ℕ) (lengths : List ℕ) → i < length lengths → size_of (suc i) lengths ≡ size_of i lengths + (get_or lengths i 0 + 4)
+    go : (i : ℕ) (lengths : List ℕ) → i < length lengths
+        → size_of (suc i) lengths ≡ size_of i lengths + (get_or lengths i 0 + 4)
     go i [] h = absurd (not-suc-le-zero h)
     go zero (n ∷ lengths) h = omega arith
     go (suc i) (n ∷ lengths) h = omega (arith, go i lengths (le_of_suc-le-suc h))
@@ -41,14 +43,17 @@ sizes_le (suc i) (suc count) (n ∷ lengths) h = omega (arith, sizes_le i count 
 records_last : (ls : List (List ℕ)) (l : List ℕ) → records_of (ls ++ (l ∷ [])) ≡ records_of ls ++ record_of l
 unfolding records_of
 records_last [] l = append-nil (record_of l)
-records_last (m ∷ ls) l = ap (λ (text : List ℕ). record_of m ++ text) (records_last ls l) ∙ sym (append_assoc (record_of m) (records_of ls) (record_of l))
+records_last (m ∷ ls) l = ap (λ (text : List ℕ). record_of m ++ text) (records_last ls l)
+    ∙ sym (append_assoc (record_of m) (records_of ls) (record_of l))
 
 module _ (labels : List ℕ) where
   -- One entry more is one record more.
   pub records_next : (i : ℕ) (starts lengths : List ℕ) → i < length starts → i < length lengths
-      → records_of (listed (i + 1) labels starts lengths) ≡ records_of (listed i labels starts lengths) ++ record_of (label_at labels starts lengths i)
+      → records_of (listed (i + 1) labels starts lengths)
+      ≡ records_of (listed i labels starts lengths) ++ record_of (label_at labels starts lengths i)
   records_next i starts lengths hs hl =
-      ap records_of (listed_next labels i starts lengths hs hl) ∙ records_last (listed i labels starts lengths) (label_at labels starts lengths i)
+      ap records_of (listed_next labels i starts lengths hs hl)
+      ∙ records_last (listed i labels starts lengths) (label_at labels starts lengths i)
 
   -- The label of an entry that lies within the labels.
   pub length_label : (s n : ℕ) → s + n ≤ length labels → length (take n (drop s labels)) ≡ n

@@ -1,5 +1,5 @@
--- The definition of the answers tells them apart, so the call's contract allows one answer and one content of the slice;
--- what each answer has to show. Assumes nothing.
+-- The definition of the answers tells them apart, so the call's contract allows one answer and one content of the
+-- slice; what each answer has to show. Assumes nothing.
 use mathlib.Core.Path.{◌≡◌, refl, sym, ◌∙◌}
 use mathlib.Core.Bool.{true, false}
 use mathlib.Core.List.{List}
@@ -34,23 +34,30 @@ lists_one r s p q = (fasta_inj r s (p.answer ∙ sym q.answer), p.slice ∙ sym 
 
 module _ (labels starts lengths : List ℕ) (count : ℕ) (slice : List ℕ) where
   -- An entry is not there or lies past the labels.
-  pub lists_outside : within labels count starts lengths ≡ false → Lists (Err OutOfLabels) slice (fasta labels starts lengths count slice)
+  pub lists_outside : within labels count starts lengths ≡ false
+      → Lists (Err OutOfLabels) slice (fasta labels starts lengths count slice)
   unfolding fasta
   lists_outside w = rw w (record { answer = refl; slice = refl })
 
   module _ (w : within labels count starts lengths ≡ true) where
     -- The text does not fit.
-    pub lists_none : length slice < size_of count lengths → Lists (Err NoRoom) slice (fasta labels starts lengths count slice)
+    pub lists_none : length slice < size_of count lengths
+        → Lists (Err NoRoom) slice (fasta labels starts lengths count slice)
     unfolding fasta
     lists_none h =
-        let l : length slice < length (records_of (listed count labels starts lengths)) = rw (records_size labels count starts lengths w) h in
-        rw (w, lt-ltb (length slice) (length (records_of (listed count labels starts lengths))) l) (record { answer = refl; slice = refl })
+        let l : length slice < length (records_of (listed count labels starts lengths)) = rw
+        (records_size labels count starts lengths w) h in
+        rw (w, lt-ltb (length slice) (length (records_of (listed count labels starts lengths))) l)
+        (record { answer = refl; slice = refl })
 
     -- It is written whole.
     pub lists_all : (n : ℕ) (out : List ℕ) → size_of count lengths ≤ length slice → n ≡ size_of count lengths
-        → out ≡ over (records_of (listed count labels starts lengths)) slice → Lists (Ok n) out (fasta labels starts lengths count slice)
+        → out ≡ over (records_of (listed count labels starts lengths)) slice
+        → Lists (Ok n) out (fasta labels starts lengths count slice)
     unfolding fasta
     lists_all n out h e o =
-        let s : length (records_of (listed count labels starts lengths)) ≡ size_of count lengths = records_size labels count starts lengths w in
+        let s : length (records_of (listed count labels starts lengths))
+        ≡ size_of count lengths = records_size labels count starts lengths w in
         let l : length (records_of (listed count labels starts lengths)) ≤ length slice = rw s h in
-        rw (w, le-ltb (length slice) (length (records_of (listed count labels starts lengths))) l) (record { answer = rw (e, s); slice = o })
+        rw (w, le-ltb (length slice) (length (records_of (listed count labels starts lengths))) l)
+        (record { answer = rw (e, s); slice = o })

@@ -25,7 +25,8 @@ pub record Listed (labels starts lengths : List ℕ) (count : ℕ) (slice₀ sli
   pub cells : slice ≡ over (records_of (listed i labels starts lengths)) slice₀
   pub long : length slice ≡ length slice₀
 
-pub listed_none : (labels starts lengths : List ℕ) (count : ℕ) (slice₀ : List ℕ) → within labels count starts lengths ≡ true
+pub listed_none : (labels starts lengths : List ℕ) (count : ℕ) (slice₀ : List ℕ)
+    → within labels count starts lengths ≡ true
     → size_of count lengths ≤ length slice₀ → Listed labels starts lengths count slice₀ slice₀ 0 0
 unfolding size_of listed records_of
 listed_none labels starts lengths count slice₀ w r =
@@ -50,11 +51,13 @@ module _ {labels starts lengths : List ℕ} {count : ℕ} {slice₀ slice : List
       ∙ sym l.place.0
 
   -- All of them.
-  pub listed_all : count ≤ i → (at ≡ size_of count lengths) × (slice ≡ over (records_of (listed count labels starts lengths)) slice₀)
+  pub listed_all : count ≤ i → (at ≡ size_of count lengths)
+      × (slice ≡ over (records_of (listed count labels starts lengths)) slice₀)
   listed_all h = let e : count ≡ i = omega (arith, l.passed) in rw e (l.place.0, l.cells)
 
   -- The next entry lies within the labels, and its record within the slice.
-  pub next_fits : i < count → (get_or starts i 0 + get_or lengths i 0 ≤ length labels) × (at + (get_or lengths i 0 + 4) ≤ length slice)
+  pub next_fits : i < count → (get_or starts i 0 + get_or lengths i 0 ≤ length labels)
+      × (at + (get_or lengths i 0 + 4) ≤ length slice)
   next_fits h = (
     within_at labels count starts lengths l.inside i h,
     omega (
@@ -68,24 +71,45 @@ module _ {labels starts lengths : List ℕ} {count : ℕ} {slice₀ slice : List
   )
 
   -- One record more: `part` is what came back of the rest of the slice.
-  pub listed_more : i < count → (start end size : ℕ) (part : List ℕ) → start ≡ get_or starts i 0 → end - start ≡ get_or lengths i 0
+  pub listed_more : i < count → (start end size : ℕ) (part : List ℕ) → start ≡ get_or starts i 0
+      → end - start ≡ get_or lengths i 0
       → size ≡ length (take (end - start) (drop start labels)) + 4
       → part ≡ over (record_of (take (end - start) (drop start labels))) (mid_of at (length slice - at) slice)
       → Listed labels starts lengths count slice₀ (put_mid at (length slice - at) slice part) (at + size) (i + 1)
   listed_more h start end size part es en r p =
       let label = take (end - start) (drop start labels) in
-      let n : length label ≡ get_or lengths i 0 = length_label labels start (end - start) (omega (arith, (next_fits h).0)) ∙ en in
-      let c : put_mid at (length slice - at) slice part ≡ over (records_of (listed i labels starts lengths) ++ record_of label) slice₀ =
-      over_rest (records_of (listed i labels starts lengths)) (record_of label) slice₀ slice part at (sym so_far) (omega (arith, so_far, l.place.1)) l.cells
+      let n : length label ≡ get_or lengths i 0 = length_label labels start (end - start)
+      (omega (arith, (next_fits h).0)) ∙ en in
+      let c : put_mid at (length slice - at) slice part
+      ≡ over (records_of (listed i labels starts lengths) ++ record_of label) slice₀ =
+      over_rest (records_of (listed i labels starts lengths)) (record_of label) slice₀ slice part at (sym so_far)
+      (omega (arith, so_far, l.place.1)) l.cells
       p in
       let m : length (records_of (listed i labels starts lengths) ++ record_of label) ≤ length slice₀ =
-      omega (arith, length-append (records_of (listed i labels starts lengths)) (record_of label), length_record label, so_far, l.long, (next_fits h).1) in
+      omega (
+        arith,
+        length-append (records_of (listed i labels starts lengths))
+            (record_of label),
+        length_record label,
+        so_far,
+        l.long,
+        (next_fits h).1,
+      ) in
       record {
         inside = l.inside;
         there = l.there;
         room = l.room;
         passed = omega arith;
-        place = (omega (arith, l.place.0, sizes_next i lengths (omega (arith, l.there.1))), omega (arith, l.long, (next_fits h).1));
-        cells = c ∙ rw (records_next labels i starts lengths (omega (arith, l.there.0)) (omega (arith, l.there.1)), en, es);
+        place = (
+          omega (arith, l.place.0, sizes_next i lengths (omega (arith, l.there.1))),
+          omega
+              (arith, l.long, (next_fits h).1),
+        );
+        cells = c ∙ rw (
+          records_next labels i starts lengths (omega (arith, l.there.0))
+              (omega (arith, l.there.1)),
+          en,
+          es,
+        );
         long = ap length c ∙ length_over (records_of (listed i labels starts lengths) ++ record_of label) slice₀ m;
       }

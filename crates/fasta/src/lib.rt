@@ -67,7 +67,8 @@ fn write_records(
     at
 }
 
-// `>0`, newline, label, newline for each of the first count entries of the index, from out's first cell on; the bytes written.
+// `>0`, newline, label, newline for each of the first count entries of the index, from out's first cell on; the bytes
+// written.
 pub fn write_fasta(
     labels: &[u8],
     starts: &[u32],

@@ -28,7 +28,8 @@ module _ (text : List ℕ) where
   listed_one i (s ∷ starts) [] a b = absurd (not-suc-le-zero b)
   listed_one zero (s ∷ starts) (n ∷ lengths) a b = refl
   listed_one (suc i) (s ∷ starts) (n ∷ lengths) a b =
-      ap (λ (ls : List (List ℕ)). take n (drop s text) ∷ ls) (listed_one i starts lengths (le_of_suc-le-suc a) (le_of_suc-le-suc b))
+      ap (λ (ls : List (List ℕ)). take n (drop s text) ∷ ls)
+      (listed_one i starts lengths (le_of_suc-le-suc a) (le_of_suc-le-suc b))
 
   -- One entry more lists one label more.
   pub listed_next : (i : ℕ) (starts lengths : List ℕ) → i < length starts → i < length lengths
@@ -64,7 +65,8 @@ module _ (text : List ℕ) where
   within_long (suc count) [] lengths h = absurd (false≢true h)
   within_long (suc count) (s ∷ starts) [] h = absurd (false≢true h)
   within_long (suc count) (s ∷ starts) (n ∷ lengths) h =
-      let r = within_long count starts lengths (both (leb (s + n) (length text)) (within text count starts lengths) h).1 in
+      let r = within_long count starts lengths
+      (both (leb (s + n) (length text)) (within text count starts lengths) h).1 in
       (omega (arith, r.0), omega (arith, r.1))
 
   -- Each lies within the text.
@@ -77,11 +79,13 @@ module _ (text : List ℕ) where
   within_at (suc count) (s ∷ starts) (n ∷ lengths) h zero l =
       leb-true (s + n) (length text) (both (leb (s + n) (length text)) (within text count starts lengths) h).0
   within_at (suc count) (s ∷ starts) (n ∷ lengths) h (suc i) l =
-      within_at count starts lengths (both (leb (s + n) (length text)) (within text count starts lengths) h).1 i (le_of_suc-le-suc l)
+      within_at count starts lengths (both (leb (s + n) (length text)) (within text count starts lengths) h).1 i
+      (le_of_suc-le-suc l)
 
   -- That is all that is asked.
   pub within_all : (count : ℕ) (starts lengths : List ℕ) → count ≤ length starts → count ≤ length lengths
-      → ((i : ℕ) → i < count → get_or starts i 0 + get_or lengths i 0 ≤ length text) → within text count starts lengths ≡ true
+      → ((i : ℕ) → i < count → get_or starts i 0 + get_or lengths i 0 ≤ length text)
+      → within text count starts lengths ≡ true
   unfolding within
   within_all zero starts lengths a b h = refl
   within_all (suc count) [] lengths a b h = absurd (not-suc-le-zero a)
@@ -93,16 +97,19 @@ module _ (text : List ℕ) where
 -- An entry that is stored behind the first i.
 module _ (text : List ℕ) (s n : ℕ) where
   listed_suc : (i : ℕ) (starts lengths : List ℕ) → i < length starts → i < length lengths
-      → listed (suc i) text (set starts i s) (set lengths i n) ≡ listed i text starts lengths ++ (take n (drop s text) ∷ [])
+      → listed (suc i) text (set starts i s) (set lengths i n)
+      ≡ listed i text starts lengths ++ (take n (drop s text) ∷ [])
   unfolding listed
   listed_suc i [] lengths a b = absurd (not-suc-le-zero a)
   listed_suc i (t ∷ starts) [] a b = absurd (not-suc-le-zero b)
   listed_suc zero (t ∷ starts) (m ∷ lengths) a b = refl
   listed_suc (suc i) (t ∷ starts) (m ∷ lengths) a b =
-      ap (λ (ls : List (List ℕ)). take m (drop t text) ∷ ls) (listed_suc i starts lengths (le_of_suc-le-suc a) (le_of_suc-le-suc b))
+      ap (λ (ls : List (List ℕ)). take m (drop t text) ∷ ls)
+      (listed_suc i starts lengths (le_of_suc-le-suc a) (le_of_suc-le-suc b))
 
   pub listed_more : (i : ℕ) (starts lengths : List ℕ) → i < length starts → i < length lengths
-      → listed (i + 1) text (set starts i s) (set lengths i n) ≡ listed i text starts lengths ++ (take n (drop s text) ∷ [])
+      → listed (i + 1) text (set starts i s) (set lengths i n)
+      ≡ listed i text starts lengths ++ (take n (drop s text) ∷ [])
   listed_more i starts lengths a b = rw (add-one i) (listed_suc i starts lengths a b)
 
   within_suc : s + n ≤ length text → (i : ℕ) (starts lengths : List ℕ) → i < length starts → i < length lengths

@@ -48,7 +48,8 @@ module _ {L least most : ℕ} {label : List ℕ} {last held at : ℕ} (l : Looki
       sym (l.left ∙ starts_later L least most label at here (test ∙ t) ∙ short_none L least most (at + 1) rest n)
 
   -- One place on.
-  module _ (h : at < last) (new old : ℕ) (i : new ≡ gc_of (get_or label (at + L) 0)) (o : old ≡ gc_of (get_or label at 0))
+  module _ (h : at < last) (new old : ℕ) (i : new ≡ gc_of (get_or label (at + L) 0))
+      (o : old ≡ gc_of (get_or label at 0))
     where
       moved : gc_in (take L (drop (at + 1) label)) + old ≡ held + new
       moved = rw (i, o, l.counted) (slide L label at l.some (omega (arith, l.places.1)))

@@ -58,7 +58,8 @@ module _ (K cutoff L least most : ℕ) (labels starts lengths : List ℕ) (count
     answered_all = whole.number ∙ number
 
     -- The cell of each label has the first start of a probe in it.
-    pub answered_first : (i : ℕ) → i < count → get_or out i 0 ≡ first_probe L least most (label_at labels starts lengths i)
+    pub answered_first : (i : ℕ) → i < count
+        → get_or out i 0 ≡ first_probe L least most (label_at labels starts lengths i)
     answered_first i h =
         let all = first_starts L least most labels starts lengths count in
         let n : i < length all = omega (arith, number) in

@@ -1,5 +1,5 @@
--- The definition of the answers tells them apart, so the call's contract allows one answer and one content of the slice;
--- what each answer has to show. Assumes nothing.
+-- The definition of the answers tells them apart, so the call's contract allows one answer and one content of the
+-- slice; what each answer has to show. Assumes nothing.
 use Rattle.std.proofs.Common.{◌≡◌, ℕ, ◌%◌, ◌<◌, ◌≤◌, true, false, cond, ◌&&◌, eqb, leb, List, length, sym, refl, ap, ◌∙◌, arith, le-ltb, lt-ltb, eqb-true, leb-true, Result, Ok, Err}
 use Rattle.lemmas.proofs.Tests.{both}
 use Rattle.dna.specs.Text.{over}

@@ -39,8 +39,8 @@ fn gc_in(text: &[u8]) -> usize
     text.iter().map(|byte| gc(*byte)).sum()
 }
 
-// A number lies between two in order, or is one of them, by one comparison: what is below the first wraps round to above
-// the second.
+// A number lies between two in order, or is one of them, by one comparison: what is below the first wraps round to
+// above the second.
 fn in_bounds(least: usize, held: usize, most: usize) -> bool
     requires { least ≤ most }
     ensures { result ≡ between least held most }

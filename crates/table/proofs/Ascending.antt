@@ -1,7 +1,7 @@
 -- Keys tested one by one: what is left to test, and how each test bears on the whole. Assumes nothing.
-use mathlib.Core.Path.{◌≡◌, refl, sym, ap, ◌∙◌}
-use mathlib.Core.Bool.{Bool, true, false, cond, ◌&&◌}
-use mathlib.Core.List.{List, [], ◌∷◌}
+use mathlib.Core.Path.{◌≡◌, sym, ◌∙◌}
+use mathlib.Core.Bool.{Bool, true, false, ◌&&◌}
+use mathlib.Core.List.{List, ◌∷◌}
 use Prim.Native.Nat.{ℕ, suc, ◌+◌, ◌-◌, ◌*◌, ◌/◌, ◌^◌, ◌≤◌, ◌<◌}
 use native.Mathlib.Omega.{arith}
 use borrow.Author.Tests.{le-leb, lt-leb, ltb-true}
@@ -9,7 +9,7 @@ use lib.Dec.{ltb, leb}
 use lib.ListN.{length, drop}
 use lib.Seq.{drop-cons}
 use Rattle.lemmas.proofs.Tests.{both}
-use Rattle.kmer.specs.Kmer.{ok_k, is_canon}
+use Rattle.kmer.specs.Kmer.{is_canon}
 use Rattle.graph.specs.Table.{keys_of, fit_from}
 use Rattle.table.specs.Search.{key}
 
@@ -18,10 +18,12 @@ module _ (K least x : ℕ) where
   pub too_low : x < least → false ≡ leb least x && ltb x (4 ^ K) && is_canon K x
   too_low l = rw (lt-leb least x l)
 
-  pub not_low : {t : Bool} → least ≤ x → t ≡ ltb x (4 ^ K) && is_canon K x → t ≡ leb least x && ltb x (4 ^ K) && is_canon K x
+  pub not_low : {t : Bool} → least ≤ x → t ≡ ltb x (4 ^ K) && is_canon K x
+      → t ≡ leb least x && ltb x (4 ^ K) && is_canon K x
   not_low l e = e ∙ rw (le-leb least x l)
 
--- The first i keys have passed, the next has to be at least some number up to 4 to the K, and the whole is as the rest is.
+-- The first i keys have passed, the next has to be at least some number up to 4 to the K, and the whole is as the rest
+-- is.
 pub record Passed (K n : ℕ) (keys : List ℕ) (least i : ℕ) : Type 0 where
   pub upto : i ≤ n
   pub bounded : least ≤ 4 ^ K
@@ -54,10 +56,13 @@ module _ (K n : ℕ) (keys : List ℕ) where
     unfolding fit_from
     tests = p.rest ∙ rw first
 
-    pub not_passed : false ≡ leb least (key keys i) && ltb (key keys i) (4 ^ K) && is_canon K (key keys i) → false ≡ fit_from K 0 (keys_of n keys)
+    pub not_passed : false ≡ leb least (key keys i) && ltb (key keys i) (4 ^ K) && is_canon K (key keys i)
+        → false ≡ fit_from K 0 (keys_of n keys)
     not_passed e = sym (tests ∙ rw (sym e))
 
-    pub passed_more : true ≡ leb least (key keys i) && ltb (key keys i) (4 ^ K) && is_canon K (key keys i) → Passed K n keys (suc (key keys i)) (i + 1)
+    pub passed_more : true ≡ leb least (key keys i) && ltb (key keys i) (4 ^ K) && is_canon K (key keys i)
+        → Passed K n keys (suc (key keys i)) (i + 1)
     passed_more e =
-        let b = (both (leb least (key keys i)) _ (both (leb least (key keys i) && ltb (key keys i) (4 ^ K)) _ (sym e)).0).1 in
+        let b = (both (leb least (key keys i)) _
+        (both (leb least (key keys i) && ltb (key keys i) (4 ^ K)) _ (sym e)).0).1 in
         record { upto = omega arith; bounded = ltb-true (key keys i) (4 ^ K) b; rest = tests ∙ rw (sym e) }

@@ -17,7 +17,8 @@ module _ {k : ℕ} {bounds : List ℕ} where
   pub bounding_none : length bounds ≡ 256 → Bounding k bounds 0
   bounding_none e = record { long = e; held = below_none _ }
 
-  pub bounding_more : {b : ℕ} (w : ℕ) → Bounding k bounds b → b < 256 → w * unit_of k ≡ bound_of k b → Bounding k (set bounds b w) (b + 1)
+  pub bounding_more : {b : ℕ} (w : ℕ) → Bounding k bounds b → b < 256 → w * unit_of k ≡ bound_of k b
+      → Bounding k (set bounds b w) (b + 1)
   bounding_more {b} w p l e =
       record {
         long = length-set bounds b w ∙ p.long;

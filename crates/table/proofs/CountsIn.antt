@@ -15,22 +15,28 @@ use Rattle.table.proofs.Entering.{put_from, Upto, put_before, put_last}
 abbrev pub counts_from : ℕ → ℕ → List ℕ → List ℕ → List ℕ → ℕ → List ℕ
 counts_from n m places new counts₀ j = put_from j (take m places) (take m new) (take n counts₀)
 
-module _ (n m : ℕ) (places : List ℕ) (l : m ≤ length places) (new counts₀ : List ℕ) (k : m ≤ length new) (room : n + m ≤ length counts₀) where
+module _ (n m : ℕ) (places : List ℕ) (l : m ≤ length places) (new counts₀ : List ℕ) (k : m ≤ length new)
+    (room : n + m ≤ length counts₀) where
   pub counts_none : Opened (counts_from n m places new counts₀ m) (drop (n + m) counts₀) counts₀ n m
   counts_none =
       rw (put_last n m places l (take m new) (take n counts₀))
-      (opened_none (take n counts₀) (drop n counts₀) counts₀ n m (length-take-le n counts₀ (omega arith)) (take-append-drop n counts₀))
+      (opened_none (take n counts₀) (drop n counts₀) counts₀ n m (length-take-le n counts₀ (omega arith))
+      (take-append-drop n counts₀))
 
-  pub counts_more : {s s₁ : List ℕ} (end j : ℕ) → Upto n m places end j → Opened (counts_from n m places new counts₀ j) (drop (n + m) counts₀) s end j
+  pub counts_more : {s s₁ : List ℕ} (end j : ℕ) → Upto n m places end j
+      → Opened (counts_from n m places new counts₀ j) (drop (n + m) counts₀) s end j
       → length s ≡ length counts₀ → 0 < j
-      → s₁ ≡ paste s (get_or places (j - 1) 0 + (j - 1) + 1) (drop (get_or places (j - 1) 0) s) (end - get_or places (j - 1) 0)
+      → s₁ ≡ paste s (get_or places (j - 1) 0 + (j - 1) + 1) (drop (get_or places (j - 1) 0) s)
+      (end - get_or places (j - 1) 0)
       → length s₁ ≡ length s
-      → Opened (counts_from n m places new counts₀ (j - 1)) (drop (n + m) counts₀) (set s₁ (get_or places (j - 1) 0 + (j - 1)) (get_or new (j - 1) 0)) (get_or places (j - 1) 0) (j - 1)
+      → Opened (counts_from n m places new counts₀ (j - 1)) (drop (n + m) counts₀)
+      (set s₁ (get_or places (j - 1) 0 + (j - 1)) (get_or new (j - 1) 0)) (get_or places (j - 1) 0) (j - 1)
   counts_more {s} {s₁} end j u o long h e kept =
       let i = get_or places (j - 1) 0 in
       let b : i ≤ end = u.next (j - 1) (omega arith) in
       let x : get_or (take m new) (j - 1) 0 ≡ get_or new (j - 1) 0 = get_or-take m new (j - 1) 0 (omega arith) in
-      let c = put_before n m places l (take m new) (take n counts₀) j h u.left (omega (arith, length-take-le m new k)) in
+      let c = put_before n m places l (take m new) (take n counts₀) j h u.left
+      (omega (arith, length-take-le m new k)) in
       let top : end + j ≤ length s = omega arith in
       let at : i + (j - 1) + 1 ≡ i + j = omega arith in
       opened_more i (j - 1) (get_or new (j - 1) 0 ∷ []) o b top (omega arith)
@@ -38,6 +44,7 @@ module _ (n m : ℕ) (places : List ℕ) (l : m ≤ length places) (new counts�
       (wrote_cells s₁ (i + (j - 1)) (get_or new (j - 1) 0 ∷ []) (omega arith))
       (rw x at c)
 
-  pub counts_all : {s : List ℕ} (end j : ℕ) → Opened (counts_from n m places new counts₀ j) (drop (n + m) counts₀) s end j → length s ≡ length counts₀ → j ≡ 0
+  pub counts_all : {s : List ℕ} (end j : ℕ)
+      → Opened (counts_from n m places new counts₀ j) (drop (n + m) counts₀) s end j → length s ≡ length counts₀ → j ≡ 0
       → s ≡ over (put_in (take m places) (take m new) (take n counts₀)) counts₀
   counts_all {s} end j o long e = opened_all counts₀ (n + m) end 0 (rw e at o) refl room long

@@ -33,7 +33,8 @@ module _ (n m : ℕ) (places : List ℕ) (l : m ≤ length places) where
   pub upto_none : rising n 0 (take m places) ≡ true → Upto n m places n m
   upto_none r = record { left = omega arith; within = omega arith; next = place_within n m places l r }
 
-  pub upto_more : {end j : ℕ} → rising n 0 (take m places) ≡ true → Upto n m places end j → 0 < j → Upto n m places (get_or places (j - 1) 0) (j - 1)
+  pub upto_more : {end j : ℕ} → rising n 0 (take m places) ≡ true → Upto n m places end j → 0 < j
+      → Upto n m places (get_or places (j - 1) 0) (j - 1)
   upto_more {end} {j} r u h =
       record {
         left = omega arith;
@@ -43,10 +44,12 @@ module _ (n m : ℕ) (places : List ℕ) (l : m ≤ length places) where
 
   -- The one before them is put in.
   pub put_before : (xs ys : List ℕ) (j : ℕ) → 0 < j → j ≤ m → m ≤ length xs
-      → put_from (j - 1) (take m places) xs ys ≡ insert_at (get_or places (j - 1) 0) (get_or xs (j - 1) 0) (put_from j (take m places) xs ys)
+      → put_from (j - 1) (take m places) xs ys
+      ≡ insert_at (get_or places (j - 1) 0) (get_or xs (j - 1) 0) (put_from j (take m places) xs ys)
   put_before xs ys j h b k =
       let e : suc (j - 1) ≡ j = omega arith in
-      let p : get_or (take m places) (j - 1) 0 ≡ get_or places (j - 1) 0 = get_or-take m places (j - 1) 0 (omega arith) in
+      let p : get_or (take m places) (j - 1) 0
+      ≡ get_or places (j - 1) 0 = get_or-take m places (j - 1) 0 (omega arith) in
       put_next (j - 1) (take m places) xs ys (omega (arith, length-take-le m places l)) (omega arith) ∙ rw (e, p)
 
   pub put_last : (xs ys : List ℕ) → put_from m (take m places) xs ys ≡ ys

@@ -17,7 +17,8 @@ module _ (passes : ℕ → Bool) where
   unfolding halving
   halve_up most lo hi h e = rw (lt-ltb lo hi h, e)
 
-  halve_down : (most lo hi : ℕ) → lo < hi → passes (middle lo hi) ≡ false → halving passes (suc most) lo hi ≡ halving passes most lo (middle lo hi)
+  halve_down : (most lo hi : ℕ) → lo < hi → passes (middle lo hi) ≡ false
+      → halving passes (suc most) lo hi ≡ halving passes most lo (middle lo hi)
   unfolding halving
   halve_down most lo hi h e = rw (lt-ltb lo hi h, e)
 
@@ -54,7 +55,8 @@ module _ (passes : ℕ → Bool) where
     left_none k = sym (left.same ∙ halve_end left.most lo hi k)
 
   -- Where all places before r pass and none from r on, halving ends at r.
-  module _ (r hi₀ : ℕ) (before : (i : ℕ) → i < r → passes i ≡ true) (after : (i : ℕ) → r ≤ i → i < hi₀ → passes i ≡ false) where
+  module _ (r hi₀ : ℕ) (before : (i : ℕ) → i < r → passes i ≡ true)
+      (after : (i : ℕ) → r ≤ i → i < hi₀ → passes i ≡ false) where
     pub halving_ends : (most lo hi : ℕ) → hi - lo ≤ most → lo ≤ r → r ≤ hi → hi ≤ hi₀ → halving passes most lo hi ≡ r
     halving_ends zero lo hi u l h b = halve_end zero lo hi (omega arith) ∙ omega arith
     halving_ends (suc most) lo hi u l h b = go (halving_ends most) (dec_lt lo hi) (passes (middle lo hi)) refl
@@ -62,12 +64,14 @@ module _ (passes : ℕ → Bool) where
         go : ((lo hi : ℕ) → hi - lo ≤ most → lo ≤ r → r ≤ hi → hi ≤ hi₀ → halving passes most lo hi ≡ r)
             → Dec (lo < hi) → (t : Bool) → passes (middle lo hi) ≡ t → halving passes (suc most) lo hi ≡ r
         go ih (no k) t e = halve_end (suc most) lo hi (omega arith) ∙ omega arith
-        go ih (yes k) true e = halve_up most lo hi k e ∙ ih (middle lo hi + 1) hi (omega arith) (high (dec_lt (middle lo hi) r)) h b
+        go ih (yes k) true e = halve_up most lo hi k e
+            ∙ ih (middle lo hi + 1) hi (omega arith) (high (dec_lt (middle lo hi) r)) h b
           where
             high : Dec (middle lo hi < r) → middle lo hi + 1 ≤ r
             high (yes m) = omega arith
             high (no m) = never (passes (middle lo hi)) e (after (middle lo hi) (omega arith) (omega arith))
-        go ih (yes k) false e = halve_down most lo hi k e ∙ ih lo (middle lo hi) (omega arith) l (low (dec_lt (middle lo hi) r)) (omega arith)
+        go ih (yes k) false e = halve_down most lo hi k e
+            ∙ ih lo (middle lo hi) (omega arith) l (low (dec_lt (middle lo hi) r)) (omega arith)
           where
             low : Dec (middle lo hi < r) → r ≤ middle lo hi
             low (yes m) = never (passes (middle lo hi)) (before (middle lo hi) m) e

@@ -8,7 +8,8 @@ use lib.ListN.{length, get_or}
 use Rattle.graph.specs.Table.{keys_of}
 use Rattle.table.specs.Search.{key}
 
-pub key_is : (n : ℕ) (words : List ℕ) (i : ℕ) → i < n → i < length words / 2 → get_or (keys_of n words) i 0 ≡ key words i
+pub key_is : (n : ℕ) (words : List ℕ) (i : ℕ) → i < n → i < length words / 2
+    → get_or (keys_of n words) i 0 ≡ key words i
 unfolding keys_of
 key_is zero words i h l = absurd (not-suc-le-zero h)
 key_is (suc n) [] i h l = absurd (omega arith)

@@ -20,20 +20,25 @@ use Rattle.table.proofs.Entering.{put_from, Upto, put_before, put_last}
 abbrev pub words_from : ℕ → ℕ → List ℕ → List ℕ → List ℕ → ℕ → List ℕ
 words_from n m places new keys₀ j = words_of (put_from j (take m places) (keys_of m new) (keys_of n keys₀))
 
-module _ (n m : ℕ) (places : List ℕ) (l : m ≤ length places) (new keys₀ : List ℕ) (k : m ≤ length new / 2) (room : n + m ≤ length keys₀ / 2) where
-  pub words_none : ((i : ℕ) → get_or keys₀ i 0 < 2 ^ 64) → Opened (words_from n m places new keys₀ m) (drop (2 * n + 2 * m) keys₀) keys₀ (2 * n) (2 * m)
+module _ (n m : ℕ) (places : List ℕ) (l : m ≤ length places) (new keys₀ : List ℕ) (k : m ≤ length new / 2)
+    (room : n + m ≤ length keys₀ / 2) where
+  pub words_none : ((i : ℕ) → get_or keys₀ i 0 < 2 ^ 64)
+      → Opened (words_from n m places new keys₀ m) (drop (2 * n + 2 * m) keys₀) keys₀ (2 * n) (2 * m)
   words_none fits =
       rw (put_last n m places l (keys_of m new) (keys_of n keys₀))
       (opened_none (words_of (keys_of n keys₀)) (drop (2 * n) keys₀) keys₀ (2 * n) (2 * m)
       (omega (arith, words_length (keys_of n keys₀), keys_length n keys₀)) (words_keys n keys₀ (omega arith) fits))
 
-  pub words_more : {s s₁ s₂ : List ℕ} (end j : ℕ) → Upto n m places end j → Opened (words_from n m places new keys₀ j) (drop (2 * n + 2 * m) keys₀) s (2 * end) (2 * j)
+  pub words_more : {s s₁ s₂ : List ℕ} (end j : ℕ) → Upto n m places end j
+      → Opened (words_from n m places new keys₀ j) (drop (2 * n + 2 * m) keys₀) s (2 * end) (2 * j)
       → length s ≡ length keys₀ → 0 < j
       → s₁ ≡ paste s (2 * (get_or places (j - 1) 0 + (j - 1) + 1)) (drop (2 * get_or places (j - 1) 0) s)
       (2 * end - 2 * get_or places (j - 1) 0)
       → length s₁ ≡ length s → ((i : ℕ) → get_or new i 0 < 2 ^ 64)
-      → s₂ ≡ set (set s₁ (2 * (get_or places (j - 1) 0 + (j - 1))) (get_or new (2 * (j - 1)) 0)) (2 * (get_or places (j - 1) 0 + (j - 1)) + 1) (get_or new (2 * (j - 1) + 1) 0)
-      → Opened (words_from n m places new keys₀ (j - 1)) (drop (2 * n + 2 * m) keys₀) s₂ (2 * get_or places (j - 1) 0) (2 * (j - 1))
+      → s₂ ≡ set (set s₁ (2 * (get_or places (j - 1) 0 + (j - 1))) (get_or new (2 * (j - 1)) 0))
+      (2 * (get_or places (j - 1) 0 + (j - 1)) + 1) (get_or new (2 * (j - 1) + 1) 0)
+      → Opened (words_from n m places new keys₀ (j - 1)) (drop (2 * n + 2 * m) keys₀) s₂ (2 * get_or places (j - 1) 0)
+      (2 * (j - 1))
   words_more {s} {s₁} end j u o long h e kept fits f =
       let i = get_or places (j - 1) 0 in
       let lo = get_or new (2 * (j - 1)) 0 in
@@ -47,10 +52,14 @@ module _ (n m : ℕ) (places : List ℕ) (l : m ≤ length places) (new keys₀ 
       let next : 2 * i + 2 * (j - 1) + 1 ≡ suc (2 * i + 2 * (j - 1)) = omega arith in
       rw (f, at, next)
       (opened_more (2 * i) (2 * (j - 1)) (lo ∷ hi ∷ []) o (omega arith) top (omega arith)
-      (wrote_part s (2 * i + 2 * j) (drop (2 * i) s) (2 * end - 2 * i) (omega arith) (omega (arith, length-drop (2 * i) s)) (rw above at e))
+      (wrote_part s (2 * i + 2 * j) (drop (2 * i) s) (2 * end - 2 * i) (omega arith)
+      (omega (arith, length-drop (2 * i) s)) (rw above at e))
       (wrote_cells s₁ (2 * i + 2 * (j - 1)) (lo ∷ hi ∷ []) (omega arith))
-      (ap words_of (rw x at c) ∙ sym (words_insert i (put_from j (take m places) (keys_of m new) (keys_of n keys₀)) lo hi (fits (2 * (j - 1))))))
+      (ap words_of (rw x at c) ∙ sym (words_insert i
+      (put_from j (take m places) (keys_of m new) (keys_of n keys₀)) lo hi (fits (2 * (j - 1))))))
 
-  pub words_all : {s : List ℕ} (end j : ℕ) → Opened (words_from n m places new keys₀ j) (drop (2 * n + 2 * m) keys₀) s (2 * end) (2 * j) → length s ≡ length keys₀ → j ≡ 0
+  pub words_all : {s : List ℕ} (end j : ℕ)
+      → Opened (words_from n m places new keys₀ j) (drop (2 * n + 2 * m) keys₀) s (2 * end) (2 * j)
+      → length s ≡ length keys₀ → j ≡ 0
       → s ≡ over (words_of (put_in (take m places) (keys_of m new) (keys_of n keys₀))) keys₀
   words_all {s} end j o long e = opened_all keys₀ (2 * n + 2 * m) (2 * end) 0 (rw e at o) refl (omega arith) long

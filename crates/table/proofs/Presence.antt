@@ -1,7 +1,8 @@
--- The words of a table: the bits of all of them put together are within the counters exactly where those of each are. Assumes nothing.
-use mathlib.Core.Path.{◌≡◌, refl, sym, ap, ap₂, ◌∙◌}
+-- The words of a table: the bits of all of them put together are within the counters exactly where those of each are.
+-- Assumes nothing.
+use mathlib.Core.Path.{◌≡◌, refl, sym, ap₂, ◌∙◌}
 use mathlib.Core.Bool.{true, ◌&&◌, and-true, and_assoc}
-use mathlib.Core.List.{List, [], ◌∷◌, ◌++◌}
+use mathlib.Core.List.{List, [], ◌∷◌}
 use Prim.Native.Nat.{ℕ, zero, suc, ◌+◌, ◌*◌, ◌^◌, ◌%◌, ◌≤◌, ◌<◌}
 use native.Mathlib.Nat.{mod-one}
 use native.Mathlib.Omega.{arith}
@@ -23,7 +24,8 @@ module _ (κ : Kind) (a b : ℕ) where
   apart : word_fits κ (bit_or a b) ≡ true → (word_fits κ a && word_fits κ b) ≡ true
   apart h =
       let p = both (eqb (bit_or a b % unit κ 0) 0) (ltb (bit_or a b) (unit κ 8)) h in
-      let none : bit_or (a % unit κ 0) (b % unit κ 0) ≡ 0 = sym (or_mod a b (κ.first + κ.width * 0)) ∙ eqb-true _ _ p.0 in
+      let none : bit_or (a % unit κ 0) (b % unit κ 0) ≡ 0 = sym (or_mod a b (κ.first + κ.width * 0))
+      ∙ eqb-true _ _ p.0 in
       let above = or_above (a % unit κ 0) (b % unit κ 0) in
       let below : bit_or a b < unit κ 8 = ltb-true _ _ p.1 in
       rw (
@@ -53,10 +55,12 @@ module _ (κ : Kind) (a b : ℕ) where
 
 module _ (κ : Kind) where
   -- The words put to bits that are there.
-  pub gathered : (ws : List ℕ) (bits : ℕ) → word_fits κ (fold (λ b w. bit_or b w) bits ws) ≡ word_fits κ bits && words_fit κ ws
+  pub gathered : (ws : List ℕ) (bits : ℕ)
+      → word_fits κ (fold (λ b w. bit_or b w) bits ws) ≡ word_fits κ bits && words_fit κ ws
   unfolding words_fit
   gathered [] bits = sym (and-true (word_fits κ bits))
-  gathered (w ∷ ws) bits = gathered ws (bit_or bits w) ∙ rw (or_fits κ bits w) (and_assoc (word_fits κ bits) (word_fits κ w) (words_fit κ ws))
+  gathered (w ∷ ws) bits = gathered ws (bit_or bits w)
+      ∙ rw (or_fits κ bits w) (and_assoc (word_fits κ bits) (word_fits κ w) (words_fit κ ws))
 
   pub words_all : (n : ℕ) (ws : List ℕ) → n ≤ length ws → ((i : ℕ) → i < n → word_fits κ (get_or ws i 0) ≡ true)
       → words_fit κ (take n ws) ≡ true

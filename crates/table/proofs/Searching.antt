@@ -1,4 +1,5 @@
--- The search among the keys of a slice: its tests, the place at which it ends, and what is found there. Assumes nothing.
+-- The search among the keys of a slice: its tests, the place at which it ends, and what is found there. Assumes
+-- nothing.
 use mathlib.Core.Path.{◌≡◌, sym, ap, ◌∙◌}
 use mathlib.Core.Bool.{Bool, true, false, cond, ◌&&◌}
 use mathlib.Core.List.{List}
@@ -24,7 +25,8 @@ module _ (n : ℕ) (words : List ℕ) (x l h : ℕ) where
   abbrev pub Leaves : ℕ → ℕ → Type 0
   Leaves lo hi = Left (smaller (keys_of n words) x) (length (keys_of n words)) l h lo hi
 
-  pub smaller_is : h ≤ length (keys_of n words) → (i v : ℕ) (t : Bool) → i < h → v ≡ key words i → t ≡ ltb v x → smaller (keys_of n words) x i ≡ t
+  pub smaller_is : h ≤ length (keys_of n words) → (i v : ℕ) (t : Bool) → i < h → v ≡ key words i → t ≡ ltb v x
+      → smaller (keys_of n words) x i ≡ t
   smaller_is w i v t k e f =
       let s = keys_length n words in
       ap (λ (y : ℕ). ltb y x) (key_is n words i (omega arith) (omega arith) ∙ sym e) ∙ sym f
@@ -36,7 +38,8 @@ module _ (n : ℕ) (words : List ℕ) (x l h : ℕ) where
 -- The search from lo to hi among the first n keys goes from l to m, cut to those that there are, and ends at i.
 module _ (n : ℕ) (words : List ℕ) (lo hi x l m i : ℕ) (e : m ≡ min (min hi n) (length words / 2)) (f : l ≡ min lo m)
     (p : m ≤ length (keys_of n words) → i ≡ place_between (keys_of n words) l m x) where
-  found_is : find_between (keys_of n words) lo hi x ≡ cond (ltb i m && eqb (get_or (keys_of n words) i 0) x) (Ok i) (Err i)
+  found_is : find_between (keys_of n words) lo hi x
+      ≡ cond (ltb i m && eqb (get_or (keys_of n words) i 0) x) (Ok i) (Err i)
   unfolding find_between
   found_is =
       let s = keys_length n words in
@@ -58,7 +61,8 @@ module _ (n : ℕ) (words : List ℕ) (lo hi x l m i : ℕ) (e : m ≡ min (min 
     find_gap e = sym (found_is ∙ rw (lt-ltb i m h, here, e))
 
 -- From the first place to the last it is the search among all.
-pub find_all : (n : ℕ) (words : List ℕ) (x : ℕ) {f : Result ℕ ℕ} → f ≡ find_between (keys_of n words) 0 n x → f ≡ find_in (keys_of n words) x
+pub find_all : (n : ℕ) (words : List ℕ) (x : ℕ) {f : Result ℕ ℕ} → f ≡ find_between (keys_of n words) 0 n x
+    → f ≡ find_in (keys_of n words) x
 unfolding find_between find_in place_between place_of
 find_all n words x e =
     let s = keys_length n words in

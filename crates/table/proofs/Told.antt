@@ -35,7 +35,8 @@ passed K false u e = let z : ◌≡◌ {A = ℕ} 0 1 = cc in absurd (omega arith
 
 -- ---- the answer
 
-module _ (κ : Kind) (K n : ℕ) (keys counts : List ℕ) {r : Result (Unit {0}) FitError} (t : fit_answer r ≡ fit_call κ K n keys counts) where
+module _ (κ : Kind) (K n : ℕ) (keys counts : List ℕ) {r : Result (Unit {0}) FitError}
+    (t : fit_answer r ≡ fit_call κ K n keys counts) where
   pub told_unsupported : {k : ℕ} → r ≡ Err (UnsupportedK k) → (ok_k K ≡ false) × (k ≡ K)
   told_unsupported {k} e = refused_1 K k (ok_k K) (fit_for κ K n keys counts) (sym (ap fit_answer e) ∙ t)
 

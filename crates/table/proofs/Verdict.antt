@@ -1,4 +1,5 @@
--- How the test of a table ends: K is refused, there is no room for so many vertices, a key is wrong, or the words decide. Assumes nothing.
+-- How the test of a table ends: K is refused, there is no room for so many vertices, a key is wrong, or the words
+-- decide. Assumes nothing.
 use mathlib.Core.Path.{◌≡◌, refl, sym}
 use mathlib.Core.Bool.{Bool, true, false, cond}
 use mathlib.Core.List.{List}
@@ -11,14 +12,14 @@ use Rattle.kmer.proofs.Bounds.{bounds_ok}
 use Rattle.state.specs.Counted.{Kind}
 use Rattle.graph.specs.Table.{keys_of, capacity, fit_from, words_fit}
 use Rattle.table.specs.Calls.{fit_call, fit_answer}
-use Rattle.table.specs.declared.FitError.{FitError}
 use Rattle.table.specs.declared.FitError.TheVariants.{Unfit, UnsupportedK}
 
 module _ (κ : Kind) (k n : ℕ) (keys counts : List ℕ) where
   pub fit_refused : (1 ≤ k → k ≤ 63 → ⊥) → fit_answer (Err (UnsupportedK k)) ≡ fit_call κ k n keys counts
   fit_refused h = go (leb 1 k) refl (leb k 63) refl
     where
-      go : (a : Bool) → leb 1 k ≡ a → (b : Bool) → leb k 63 ≡ b → fit_answer (Err (UnsupportedK k)) ≡ fit_call κ k n keys counts
+      go : (a : Bool) → leb 1 k ≡ a → (b : Bool) → leb k 63 ≡ b
+          → fit_answer (Err (UnsupportedK k)) ≡ fit_call κ k n keys counts
       go false p b q = rw p
       go true p false q = rw (p, q)
       go true p true q = absurd (h (leb-true 1 k p) (leb-true k 63 q))

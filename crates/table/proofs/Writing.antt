@@ -4,8 +4,8 @@ use mathlib.Core.List.{List, [], ◌∷◌, ◌++◌, append_assoc}
 use Prim.Native.Nat.{ℕ, zero, suc, ◌+◌, ◌≤◌}
 use native.Mathlib.Nat.{zero-add, suc-add}
 use native.Mathlib.Omega.{arith}
-use lib.ListN.{length, get_or, set, take, drop}
-use lib.Seq.{paste, drop-cons, sets, sets-eq, length-take-le, take_at, drop_at, take-nil, take-take}
+use lib.ListN.{length, take, drop}
+use lib.Seq.{paste, sets, sets-eq, length-take-le, take_at, drop_at, take-nil, take-take}
 
 pub record Wrote (s : List ℕ) (at : ℕ) (cells s' : List ℕ) : Type 0 where
   pub front : take at s' ≡ take at s
@@ -24,8 +24,10 @@ module _ (s : List ℕ) (at : ℕ) (cells : List ℕ) where
   pub wrote_cells : at + length cells ≤ length s → Wrote s at cells (sets s at cells)
   wrote_cells h = wrote_is (omega arith) (sets-eq cells s at h)
 
-pub wrote_part : (s : List ℕ) (at : ℕ) (l : List ℕ) (n : ℕ) {s' : List ℕ} → at ≤ length s → n ≤ length l → s' ≡ paste s at l n → Wrote s at (take n l) s'
-wrote_part s at l n h k e = let long : length (take n l) ≡ n = length-take-le n l k in wrote_is s at (take n l) h (rw long e)
+pub wrote_part : (s : List ℕ) (at : ℕ) (l : List ℕ) (n : ℕ) {s' : List ℕ} → at ≤ length s → n ≤ length l
+    → s' ≡ paste s at l n → Wrote s at (take n l) s'
+wrote_part s at l n h k e = let long : length (take n l)
+    ≡ n = length-take-le n l k in wrote_is s at (take n l) h (rw long e)
 
 -- A part of a list is one of its front.
 pub part_front : (i k : ℕ) (l : List ℕ) → take k (drop i l) ≡ drop i (take (i + k) l)

@@ -6,7 +6,8 @@ use Rattle.kmer.specs.Kmer.{rc}
 abbrev pub bound_of : ℕ → ℕ → ℕ
 bound_of k b = cond (leb 5 k) (rc 4 b * 4 ^ (k - 4)) 0
 
--- What a one counts in the word of a bound that is compared: the low word, the bound without its last three bases, or the high word.
+-- What a one counts in the word of a bound that is compared: the low word, the bound without its last three bases, or
+-- the high word.
 abbrev pub unit_of : ℕ → ℕ
 unit_of k = cond (leb k 32) 1 (cond (leb k 35) 64 (2 ^ 64))
 

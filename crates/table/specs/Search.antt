@@ -6,8 +6,8 @@ use Rattle.kmer.specs.Kmer.{joined}
 abbrev pub key : List ℕ → ℕ → ℕ
 key keys i = joined (get_or keys (2 * i) 0) (get_or keys (2 * i + 1) 0)
 
--- The places from lo up to hi are halved, at most so often: where the middle one passes the test, on with those above it, else
--- with those below. What is left is the first place that fails, if those that pass come first.
+-- The places from lo up to hi are halved, at most so often: where the middle one passes the test, on with those above
+-- it, else with those below. What is left is the first place that fails, if those that pass come first.
 unfoldable pub halving : (ℕ → Bool) → ℕ → ℕ → ℕ → ℕ
 halving passes zero lo hi = lo
 halving passes (suc most) lo hi =

@@ -115,8 +115,8 @@ fn follows(k: usize, low: u64, high: u64, l: u64, h: u64, bounds: &[u64; 256]) -
     }
 }
 
-// The first k-mer is a key, and each other one follows the one before it. The cases of K are asked of each key: the compiler makes a
-// loop of each.
+// The first k-mer is a key, and each other one follows the one before it. The cases of K are asked of each key: the
+// compiler makes a loop of each.
 fn all_fit(k: usize, n: usize, keys: &[u64], bounds: &[u64; 256]) -> bool
     requires { (ok_k k ≡ true) × (0 < n) × (n ≤ length keys.now / 2) × Bounds k bounds.now }
     ensures { result ≡ fit_from k 0 (keys_of n keys.now) }

@@ -20,7 +20,8 @@ pub enum FitError {
     UnsupportedK(usize),
 }
 
-// Why nothing is put in: no room for so many; or there are fewer new ones than said, or places that fall or are past the end.
+// Why nothing is put in: no room for so many; or there are fewer new ones than said, or places that fall or are past
+// the end.
 #[derive(Clone, Copy, PartialEq, Eq, Debug)]
 pub enum JoinError {
     Full,

@@ -12,4 +12,5 @@ returns-then-min-i c =
 pub returns-else-min-i : goal.returns-else-min-i
 returns-else-min-i c =
     let a = c.args in
-    c.is_less.ensures ∙ before_at a.n a.keys.now (value_of a.x) a.i (value_of c.key_at.result) (search rules) c.key_at.ensures
+    c.is_less.ensures ∙ before_at a.n a.keys.now (value_of a.x) a.i (value_of c.key_at.result)
+    (search rules) c.key_at.ensures

@@ -13,8 +13,16 @@ next : (c : After-wide-size) → (c.loop-length.length-index < c.args.count)
 next c =
     let a = c.args in
     let i = c.loop-length.length-index in
-    let h : i < a.count = omega (arith, length-take-le a.count a.lengths.now c.requires) in
-    (h, omega (arith, sizes_next i a.lengths.now (omega arith), get_or-take a.count a.lengths.now i 0 h, c.wide-size.ensures.0))
+    let h : i < a.count = omega (arith, length-take-le a.count a.lengths.now c.requires) in (
+      h,
+      omega (
+        arith,
+        sizes_next i a.lengths.now
+            (omega arith),
+        get_or-take a.count a.lengths.now i 0 h,
+        c.wide-size.ensures.0,
+      ),
+    )
 
 pub loop-length-init : goal.loop-length-init
 unfolding size_of

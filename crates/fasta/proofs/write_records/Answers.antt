@@ -23,7 +23,8 @@ entry c =
     let a = c.args in
     let l = c.loop-start in
     let t =
-    zip_turn (take a.count a.starts.now) (take a.count a.lengths.now) l.yielded _ l.start-iterator c.next.new.self _ (cc) (cc)
+    zip_turn (take a.count a.starts.now) (take a.count a.lengths.now) l.yielded _ l.start-iterator c.next.new.self _
+    (cc) (cc)
     l.yielded_by _
     c.in-Some.is c.next.ensures.steps in
     let h : length l.yielded < a.count = omega (arith, t.0, length-take a.count a.starts.now) in
@@ -47,5 +48,6 @@ loop-start-preserved c =
     let start = c.wide-start in
     let more = c.wide in
     let w = c.write_record-at in
-    rw length_push (listed_more c.loop-start.invariant e.0 start.result (start.result + more.result) _ _ (start.ensures.0 ∙ e.1) (omega (arith, e.2))
+    rw length_push (listed_more c.loop-start.invariant e.0 start.result (start.result + more.result) _ _
+    (start.ensures.0 ∙ e.1) (omega (arith, e.2))
     w.ensures.0 w.ensures.1)

@@ -13,7 +13,11 @@ slice_bounds-gc_in-end c =
     sym (length-take-le a.probe a.label.now c.if-label-probe.false)
 
 pub loop-at-init : goal.loop-at-init
-loop-at-init c = (looking_starts _ _ _ _ c.requires.0 c.if-label-probe.false _ c.gc_in-held.ensures, c.requires.1, c.requires.2)
+loop-at-init c = (
+  looking_starts _ _ _ _ c.requires.0 c.if-label-probe.false _ c.gc_in-held.ensures,
+  c.requires.1,
+  c.requires.2,
+)
 
 pub returns-then-in_bounds : goal.returns-then-in_bounds
 returns-then-in_bounds c = looking_finds c.loop-at.invariant.0 (sym c.in_bounds.ensures ∙ c.if-in_bounds.true)

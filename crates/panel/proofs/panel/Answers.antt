@@ -17,7 +17,8 @@ returns-then-not-in_profile c = panels_profile _ _ _ _ _ _ _ _ _ _ (sym c.if-not
 pub returns-then-not-contains : goal.returns-then-not-contains
 returns-then-not-contains c =
     let at = goal.at.returns-then-not-contains c in
-    panels_bounds _ _ _ _ _ _ _ _ _ _ (sym c.if-not-in_profile.ensures) (bounds at.After-contains ∙ c.if-not-contains.true)
+    panels_bounds _ _ _ _ _ _ _ _ _ _ (sym c.if-not-in_profile.ensures)
+    (bounds at.After-contains ∙ c.if-not-contains.true)
 
 pub returns-then-not-lie_within : goal.returns-then-not-lie_within
 returns-then-not-lie_within c =

@@ -13,7 +13,8 @@ room c =
     omega (arith, c.slot_of-t.ensures, slot_lt a.b a.k (value_of c.key_at.result), c.requires.3)
 
 pub overflow_add-directory-in-loop-i : goal.overflow_add-directory-in-loop-i
-overflow_add-directory-in-loop-i c = let r = room (goal.at.overflow_add-directory-in-loop-i c).After-slot_of-t in search rules
+overflow_add-directory-in-loop-i c = let r = room
+    (goal.at.overflow_add-directory-in-loop-i c).After-slot_of-t in search rules
 
 pub offset_bounds-directory-t : goal.offset_bounds-directory-t
 offset_bounds-directory-t c = let r = room (goal.at.offset_bounds-directory-t c).After-slot_of-t in search rules

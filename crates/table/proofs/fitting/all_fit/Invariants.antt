@@ -1,4 +1,5 @@
--- The keys before i have passed their tests, the words of the last of them are kept, and the whole is as the rest is. Assumes nothing.
+-- The keys before i have passed their tests, the words of the last of them are kept, and the whole is as the rest is.
+-- Assumes nothing.
 use Prim.Native.Nat.{suc}
 use Rattle.kmer.specs.Kmer.{joined}
 use Rattle.table.proofs.Ascending.{Passed}

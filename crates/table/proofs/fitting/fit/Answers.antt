@@ -20,7 +20,8 @@ words_fit-requires c = omega (arith, c.capacity.ensures)
 pub returns-then-words_fit : goal.returns-then-words_fit
 returns-then-words_fit c =
     let a = c.args in
-    fit_words (kind_of a.kind) a.k a.n a.keys.now a.counts.now (omega arith) (omega arith) (omega (arith, c.capacity.ensures))
+    fit_words (kind_of a.kind) a.k a.n a.keys.now a.counts.now (omega arith) (omega arith)
+    (omega (arith, c.capacity.ensures))
     (sym c.if-keys_fit.ensures) true c.if-words_fit.ensures
 
 pub returns : goal.returns

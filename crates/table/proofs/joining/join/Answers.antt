@@ -11,9 +11,11 @@ returns-then-capacity-m c =
       | then-capacity-m-via-then-capacity-m w ↦
           join_few a.n a.keys.now a.counts.now a.m a.places.now a.new_keys.now a.new_counts.now (omega arith)
       | then-capacity-m-via-else-capacity-m+then-places-m w ↦
-          join_few_places a.n a.keys.now a.counts.now a.m a.places.now a.new_keys.now a.new_counts.now (omega arith) (omega arith)
+          join_few_places a.n a.keys.now a.counts.now a.m a.places.now a.new_keys.now a.new_counts.now (omega arith)
+          (omega arith)
       | then-capacity-m-via-else-capacity-m+else-places-m+then-not-rises w ↦
-          join_unplaced a.n a.keys.now a.counts.now a.m a.places.now a.new_keys.now a.new_counts.now (omega arith) (omega arith)
+          join_unplaced a.n a.keys.now a.counts.now a.m a.places.now a.new_keys.now a.new_counts.now (omega arith)
+          (omega arith)
           (sym w.rises.ensures ∙ w.if-not-rises.true)
     ]
 

@@ -7,8 +7,11 @@ pub loop-j-init : goal.loop-j-init
 loop-j-init c =
     let a = c.args in
     let p = c.requires in
-    let k = c.type_inv.keys in
-    (upto_none a.n a.m a.places.now p.1 p.3, words_none a.n a.m a.places.now p.1 a.new_keys.now a.keys.now p.2 p.0 (λ i. (k i).fits))
+    let k = c.type_inv.keys in (
+      upto_none a.n a.m a.places.now p.1 p.3,
+      words_none a.n a.m a.places.now p.1 a.new_keys.now a.keys.now p.2 p.0
+          (λ i. (k i).fits),
+    )
 
 pub loop-j-preserved : goal.loop-j-preserved
 loop-j-preserved c =
@@ -27,4 +30,5 @@ returns c =
     let l = c.loop-j in
     let a = c.args in
     let p = c.requires in
-    words_all a.n a.m a.places.now p.1 a.new_keys.now a.keys.now p.2 p.0 l.end l.j l.invariant.1 l.auto.keys (omega arith)
+    words_all a.n a.m a.places.now p.1 a.new_keys.now a.keys.now p.2 p.0 l.end l.j l.invariant.1 l.auto.keys
+    (omega arith)

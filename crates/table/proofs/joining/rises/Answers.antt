@@ -8,11 +8,13 @@ returns-then-place-least c =
     let h = c.loop-place-test.true in
     elim c.then-place-least.branch [
       | then-place-least-via-then-place-least w ↦ falls _ _ _ _ t h w.if-place-least.true
-      | then-place-least-via-else-place-least+then-n-place w ↦ too_far _ _ _ _ t h w.if-place-least.false w.if-n-place.true
+      | then-place-least-via-else-place-least+then-n-place w ↦ too_far _ _ _ _ t h w.if-place-least.false
+          w.if-n-place.true
     ]
 
 pub loop-place-preserved : goal.loop-place-preserved
-loop-place-preserved c = tested_more _ _ _ _ c.loop-place.invariant c.loop-place-test.true c.if-place-least.false c.if-n-place.false
+loop-place-preserved c = tested_more _ _ _ _ c.loop-place.invariant c.loop-place-test.true c.if-place-least.false
+    c.if-n-place.false
 
 pub returns : goal.returns
 returns c = tested_all _ _ _ _ c.loop-place.invariant c.loop-place-test.false

@@ -15,7 +15,8 @@ loop-first-preserved-then-is_less c =
     let y = c.key_at in (
       search rules,
       λ n w. left_above _ (l.invariant.1 n w) (search rules)
-          (smaller_is n a.keys.now (value_of a.x) a.lo a.hi w (middle l.first l.end) (value_of y.result) _ (search rules) y.ensures
+          (smaller_is n a.keys.now (value_of a.x) a.lo a.hi w (middle l.first l.end) (value_of y.result) _
+          (search rules) y.ensures
           (sym c.if-is_less.true ∙ c.is_less.ensures)),
     )
 
@@ -26,7 +27,8 @@ loop-first-preserved c =
     let y = c.key_at in (
       search rules,
       λ n w. left_below _ (l.invariant.1 n w) (search rules)
-          (smaller_is n a.keys.now (value_of a.x) a.lo a.hi w (middle l.first l.end) (value_of y.result) _ (search rules) y.ensures
+          (smaller_is n a.keys.now (value_of a.x) a.lo a.hi w (middle l.first l.end) (value_of y.result) _
+          (search rules) y.ensures
           (sym c.if-is_less.false ∙ c.is_less.ensures)),
     )
 
