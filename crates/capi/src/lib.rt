@@ -18,7 +18,7 @@ ghost use Rattle.capi.specs.Says.{AddsLabel, AddsSeveral, ContractsTable, FillsO
 mod numbers;
 mod runs;
 
-use adding::{Mode, OutOfText};
+use adding::Mode;
 use numbers::{Tell, note};
 pub use runs::{
     lash_check_runs, lash_color_at, lash_pack_coordinate, lash_pack_run, lash_unpack_coordinate,
@@ -95,9 +95,9 @@ pub fn lash_add_labels(
             note(&[all.labels as u64, all.stored as u64], totals);
             all.last.tell(figures)
         }
-        Err(OutOfText) => {
+        Err(error) => {
             note(&[0, n as u64], totals);
-            12
+            error.tell(figures)
         }
     }
 }

@@ -10,7 +10,7 @@ ghost use Rattle.panel.specs.Says.{panel_answer};
 ghost use Rattle.colours.specs.Says.{refusal_of};
 ghost use Rattle.capi.specs.Says.{number_of, figures, noted, of_edges, of_totals, of_verdict, either};
 
-use adding::{AddError, Addition};
+use adding::{AddError, Addition, OutOfText};
 use colours::{ColorCoordinate, ColorError, OutOfRange, UnitigColor};
 use contraction::{ContractError, Unitigs};
 use fasta::FastaError;
@@ -114,6 +114,16 @@ impl Tell for AddError {
             AddError::Unfit => 5,
             AddError::Full => 6,
         }
+    }
+}
+
+impl Tell for OutOfText {
+    ghost number = { λ _. 12 };
+
+    ghost values = { λ _. [] };
+
+    fn tell(self, _figures: &mut [u64]) -> u32 {
+        12
     }
 }
 
