@@ -1,7 +1,6 @@
 use mathlib.Core.Path.{◌∙◌}
 use mathlib.Core.List.{[], ◌∷◌}
 use Prim.Native.Nat.{◌-◌}
-use native.Mathlib.Omega.{arith}
 use Rattle.dna.specs.Text.{part}
 use Rattle.marks.specs.Marks.{ends}
 use Rattle.rules.specs.Verdict.{breaks4}
@@ -24,15 +23,6 @@ label_at-label-requires c =
     pass_record a.k a.text.now (breaks4 a.k (keys_for a.marks.now a.keys.now) (ends a.marks.now))
     l.invariant.1 c.loop-at-test.true
 
-pub slice_bounds-has_loose_end-count : goal.slice_bounds-has_loose_end-count
-slice_bounds-has_loose_end-count c = omega (arith, c.label_at-label.ensures.ordered)
-
-pub slice_bounds-has_loose_end-start : goal.slice_bounds-has_loose_end-start
-slice_bounds-has_loose_end-start c = omega (arith, c.label_at-label.ensures.ordered, c.label_at-label.ensures.within)
-
-pub slice_bounds-has_loose_end-end : goal.slice_bounds-has_loose_end-end
-slice_bounds-has_loose_end-end c = omega (arith, c.label_at-label.ensures.ordered, c.label_at-label.ensures.within)
-
 pub has_loose_end-requires : goal.has_loose_end-requires
 has_loose_end-requires c =
     let l = c.loop-at in
@@ -53,21 +43,6 @@ returns-then-has_loose_end c =
     (c.has_loose_end.ensures ∙ any_done_4 a.k (keys_for a.marks.now a.keys.now)
     (ends a.marks.now) l.invariant.0 (part a.text.now g.result.start (g.result.end - g.result.start)))
     c.if-has_loose_end.true
-
-pub overflow_add-i : goal.overflow_add-i
-overflow_add-i c =
-    let l = c.loop-at in
-    let a = c.args in
-    let g = c.label_at-label in
-    omega (arith, l.invariant.1.few, l.invariant.1.inside, c.well_formed)
-
-pub overflow_add-at : goal.overflow_add-at
-overflow_add-at c = omega (arith, c.label_at-label.ensures.within, c.well_formed)
-
-pub loop-at-smaller : goal.loop-at-smaller
-loop-at-smaller c =
-    let g = c.label_at-label.ensures in
-    omega (arith, g.within, g.on)
 
 pub loop-at-preserved : goal.loop-at-preserved
 loop-at-preserved c =

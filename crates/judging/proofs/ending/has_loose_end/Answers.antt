@@ -15,12 +15,6 @@ see_window-first-requires c =
     let h : a.k ≤ length a.label.now = c.requires.1.1 in
     (c.requires.0, plain_bases a.label.now c.requires.1.0, omega arith)
 
-pub overflow_sub-label : goal.overflow_sub-label
-overflow_sub-label c =
-    let a = c.args in
-    let h : a.k ≤ length a.label.now = c.requires.1.1 in
-    omega arith
-
 pub see_window-last-requires : goal.see_window-last-requires
 see_window-last-requires c =
     let a = c.args in

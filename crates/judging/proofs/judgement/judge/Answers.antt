@@ -2,7 +2,7 @@
 use mathlib.Core.Path.{sym, ◌∙◌}
 use Rattle.std.proofs.lemmas.Result.{err_from_is_err_and}
 use Rattle.state.specs.Says.{kind_of}
-use Rattle.judging.proofs.Refusing.{not_taken, wrong_cutoff, few_marks, lent_first, even_K, no_list_lem, goes_on}
+use Rattle.judging.proofs.Refusing.{not_taken, wrong_cutoff, few_marks, even_K, no_list_lem, goes_on}
 use Rattle.judging.proofs.judgement.judge.Goals as goal
 
 pub returns-in_err-fit : goal.returns-in_err-fit
@@ -45,18 +45,6 @@ returns-then-not-is_list c =
     c.fit.ensures c.in_ok-fit.was
     (sym c.answers_for.ensures ∙ c.if-not-answers_for.false)
     c.if-marks-n.false c.if-k-eq0.false c.is_list.ensures c.if-not-is_list.true
-
-pub judge_first-requires : goal.judge_first-requires
-judge_first-requires c =
-    let a = c.args in (
-      c.if-marks-n.false,
-      lent_first (kind_of a.kind) a.k a.cutoff a.n a.keys.now a.counts.now a.text.now
-          a.marks.now
-          c.fit.ensures c.in_ok-fit.was
-          (sym c.answers_for.ensures ∙ c.if-not-answers_for.false)
-          c.if-marks-n.false,
-      sym c.is_list.ensures ∙ c.if-not-is_list.false,
-    )
 
 pub returns : goal.returns
 returns c =

@@ -12,9 +12,3 @@ pub slice_bounds-judge_by-end : goal.slice_bounds-judge_by-end
 slice_bounds-judge_by-end c =
     let few : c.cells_for-cells.result ≤ 16385 = rw c.cells_for-cells.ensures (cells_most _) in
     simp length-take (omega (arith, few, length-replicate {A = ℕ} 16385 0))
-
-pub judge_by-requires : goal.judge_by-requires
-judge_by-requires c = c.requires
-
-pub returns : goal.returns
-returns c = c.judge_by.ensures

@@ -1,5 +1,4 @@
-use native.Mathlib.Omega.{arith}
-use Rattle.judging.proofs.Passes.{ordering_start, ordering_record, ordering_few, ordering_end, ordering_found, ordering_on}
+use Rattle.judging.proofs.Passes.{ordering_start, ordering_record, ordering_end, ordering_found, ordering_on}
 use Rattle.judging.proofs.order.first_out.Goals as goal
 
 pub loop-at-init : goal.loop-at-init
@@ -11,11 +10,6 @@ label_at-label-requires c =
     let a = c.args in
     ordering_record a.text.now l.i l.before l.at l.invariant c.requires.0 c.requires.1 c.loop-at-test.true
 
-pub is_out-requires : goal.is_out-requires
-is_out-requires c =
-    let l = c.loop-at in
-    (l.invariant.ordered, c.label_at-label.ensures.ordered, omega (arith, c.label_at-label.ensures.within))
-
 pub returns-then-is_out : goal.returns-then-is_out
 returns-then-is_out c =
     let l = c.loop-at in
@@ -23,20 +17,6 @@ returns-then-is_out c =
     ordering_found a.text.now l.i l.before l.at l.invariant c.loop-at-test.true
     c.label_at-label.result c.label_at-label.ensures c.is_out.ensures
     c.if-is_out.true
-
-pub overflow_add-i : goal.overflow_add-i
-overflow_add-i c =
-    let l = c.loop-at in
-    let a = c.args in
-    omega (arith, ordering_few a.text.now l.i l.before l.at l.invariant c.requires.0 c.requires.1, c.well_formed)
-
-pub overflow_add-at : goal.overflow_add-at
-overflow_add-at c = omega (arith, c.label_at-label.ensures.within, c.well_formed)
-
-pub loop-at-smaller : goal.loop-at-smaller
-loop-at-smaller c =
-    let g = c.label_at-label.ensures in
-    omega (arith, g.within, g.on)
 
 pub loop-at-preserved : goal.loop-at-preserved
 loop-at-preserved c =

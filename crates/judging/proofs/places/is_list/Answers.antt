@@ -1,4 +1,4 @@
-use mathlib.Core.Path.{refl, sym, ◌∙◌}
+use mathlib.Core.Path.{sym, ◌∙◌}
 use Prim.Native.Nat.{◌<◌}
 use native.Mathlib.Omega.{arith}
 use lib.ListN.{length}
@@ -6,30 +6,12 @@ use Rattle.judging.proofs.Lines.{held_end, held_no_line, held_no_second, held_no
 use Rattle.judging.proofs.places.is_list.Goals as goal
 use Rattle.judging.proofs.places.is_list.Goals.{then-end-text-via-then-end-text, then-end-text-via-else-end-text+then-text-at-ne62, then-end-text-via-else-end-text+else-text-at-ne62+then-not-is_label}
 
-pub loop-at-init : goal.loop-at-init
-loop-at-init c = (omega arith, refl)
-
-pub line_end-head-requires : goal.line_end-head-requires
-line_end-head-requires c = omega (arith, c.loop-at-test.true)
-
 pub returns-then-head-text : goal.returns-then-head-text
 returns-then-head-text c =
     let l = c.loop-at in
     let a = c.args in
     sym (l.invariant.1 ∙ held_no_line a.k a.text.now l.at c.line_end-head.result
     c.loop-at-test.true c.line_end-head.ensures c.if-head-text.true)
-
-pub line_end-end-requires : goal.line_end-end-requires
-line_end-end-requires c = omega (arith, c.line_end-head.ensures.within, c.if-head-text.false)
-
-pub slice_bounds-is_label-count : goal.slice_bounds-is_label-count
-slice_bounds-is_label-count c = omega (arith, c.line_end-end.ensures.behind)
-
-pub slice_bounds-is_label-start : goal.slice_bounds-is_label-start
-slice_bounds-is_label-start c = omega (arith, c.line_end-end.ensures.behind, c.line_end-end.ensures.within)
-
-pub slice_bounds-is_label-end : goal.slice_bounds-is_label-end
-slice_bounds-is_label-end c = omega (arith, c.line_end-end.ensures.behind, c.line_end-end.ensures.within)
 
 pub returns-then-end-text : goal.returns-then-end-text
 returns-then-end-text c =
@@ -48,17 +30,6 @@ returns-then-end-text c =
           sym (l.invariant.1 ∙ held_no_label a.k a.text.now l.at c.line_end-head.result g h c.line_end-end.result k
           (omega (arith, k.within, w.if-end-text.false)) w.if-text-at-ne62.false w.is_label.ensures w.if-not-is_label.true)
     ]
-
-pub overflow_add-at : goal.overflow_add-at
-overflow_add-at c =
-    let k = c.line_end-end.ensures in
-    omega (arith, k.within, c.well_formed)
-
-pub loop-at-smaller : goal.loop-at-smaller
-loop-at-smaller c =
-    let k = c.line_end-end.ensures in
-    let g = c.line_end-head.ensures in
-    omega (arith, k.within, k.behind, g.behind, c.if-end-text.false)
 
 pub loop-at-preserved : goal.loop-at-preserved
 loop-at-preserved c =

@@ -1,7 +1,7 @@
 -- The k-mer rolled by its edge. Assumes nothing.
 use mathlib.Core.Path.{ap}
 use Rattle.std.proofs.Common.{is_ok}
-use Rattle.judging.proofs.Looked.{unwrapped, after_is}
+use Rattle.judging.proofs.Looked.{after_is}
 use Rattle.judging.proofs.seeing.after.Goals as goal
 
 pub unwrap-requires : goal.unwrap-requires
@@ -9,9 +9,3 @@ unwrap-requires c =
     let a = c.args in
     ap is_ok (after_is a.k a.x a.side c.requires.0 c.edge_in.ensures c.requires.1
     c.leaving_base-base.ensures c.roll_forward.ensures)
-
-pub returns : goal.returns
-returns c =
-    let a = c.args in
-    unwrapped (after_is a.k a.x a.side c.requires.0 c.edge_in.ensures c.requires.1
-    c.leaving_base-base.ensures c.roll_forward.ensures) c.unwrap.ensures

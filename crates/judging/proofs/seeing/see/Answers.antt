@@ -1,14 +1,8 @@
 -- Where the smaller strand is stored, its mark. Assumes nothing.
-use mathlib.Core.Path.{ap}
-use Rattle.std.proofs.Common.{is_ok}
 use Rattle.kmer.specs.Says.{value_of}
 use Rattle.judging.proofs.Finding.{at_lt}
 use Rattle.judging.proofs.Looked.{turned_is, unwrapped, seen_at, seen_gap}
 use Rattle.judging.proofs.seeing.see.Goals as goal
-
-pub unwrap-y-requires : goal.unwrap-y-requires
-unwrap-y-requires c =
-    let a = c.args in ap is_ok (turned_is a.k c.requires.0.ok a.x c.requires.1 c.reverse_complement.ensures)
 
 pub bounds-marks-v : goal.bounds-marks-v
 bounds-marks-v c = at_lt c.requires.0 c.args.directory.now (value_of c.lesser.result) c.find.ensures c.in-Ok.is

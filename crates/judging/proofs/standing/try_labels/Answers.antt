@@ -1,9 +1,7 @@
 use mathlib.Core.Path.{ap, ◌∙◌}
 use mathlib.Core.List.{[]}
-use native.Mathlib.Omega.{arith}
 use Rattle.marks.specs.Marks.{ends}
 use Rattle.marks.specs.Ready.{keys_for}
-use Rattle.marks.proofs.Marking.{ends_length}
 use Rattle.rules.specs.Verdict.{breaks2}
 use Rattle.judging.specs.Standing.{is_misplaced, is_bad}
 use Rattle.judging.proofs.Passes.{pass_record, pass_label, placing_start, placing_found, placing_bad, placing_fine, placing_end}
@@ -21,15 +19,6 @@ label_at-label-requires c =
     l.invariant.1.passing
     c.loop-at-test.true
 
-pub slice_bounds-test_label-count : goal.slice_bounds-test_label-count
-slice_bounds-test_label-count c = omega (arith, c.label_at-label.ensures.ordered)
-
-pub slice_bounds-test_label-start : goal.slice_bounds-test_label-start
-slice_bounds-test_label-start c = omega (arith, c.label_at-label.ensures.ordered, c.label_at-label.ensures.within)
-
-pub slice_bounds-test_label-end : goal.slice_bounds-test_label-end
-slice_bounds-test_label-end c = omega (arith, c.label_at-label.ensures.ordered, c.label_at-label.ensures.within)
-
 pub test_label-requires : goal.test_label-requires
 test_label-requires c =
     let i = c.loop-at.invariant in
@@ -45,29 +34,6 @@ returns-in-Misplaced c =
     placing_found c.loop-at.invariant.1 c.loop-at-test.true c.label_at-label.ensures
     c.test_label.ensures
     (ap is_misplaced c.in-Misplaced.is)
-
-pub overflow_add-i : goal.overflow_add-i
-overflow_add-i c =
-    let i = c.loop-at.invariant.1 in
-    omega (arith, i.passing.few, i.passing.inside, c.well_formed)
-
-pub overflow_add-at : goal.overflow_add-at
-overflow_add-at c =
-    omega (
-      arith,
-      c.label_at-label.ensures.within,
-      c.well_formed,
-    )
-
-pub one_more-good-requires : goal.one_more-good-requires
-one_more-good-requires c =
-    let i = c.loop-at.invariant.1 in
-    (i.fewer, omega (arith, i.passing.few, i.passing.inside, c.well_formed))
-
-pub loop-at-smaller : goal.loop-at-smaller
-loop-at-smaller c =
-    let g = c.label_at-label.ensures in
-    omega (arith, g.within, g.on)
 
 pub loop-at-preserved : goal.loop-at-preserved
 loop-at-preserved c =
