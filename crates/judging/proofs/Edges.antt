@@ -18,7 +18,6 @@ use Rattle.kmer.proofs.Windows.{Bases, bases_at}
 use Rattle.kmer.proofs.Strands.{canon_rc}
 use Rattle.state.specs.declared.Side.{Side}
 use Rattle.state.specs.declared.Side.TheVariants.{Front, Back}
-use Rattle.state.specs.Counted.{opposite}
 use Rattle.state.proofs.Slots.{opposite_opposite}
 use Rattle.graph.specs.Table.{rank, stored}
 use Rattle.graph.specs.Sightings.{window}
@@ -26,10 +25,9 @@ use Rattle.graph.specs.Walks.{Ends, edge, leaving, entrance}
 use Rattle.laws.specs.Demand.{retained}
 use Rattle.laws.proofs.Links.{Link, link_forward, link_back, forward_inj, window_link}
 use Rattle.laws.proofs.Sides.{complement_is, complement_back, leaving_lt}
-use Rattle.marks.specs.Marks.{end_in}
 use Rattle.rules.specs.Verdict.{leads_to, exit, is_step, bad_step, breaks3}
 use Rattle.judging.specs.Says.{row_from}
-use Rattle.judging.specs.Standing.{followed, preceded, joined_by, left, entered, joined_at, Joining}
+use Rattle.judging.specs.Standing.{followed, preceded, left, entered, joined_at, Joining}
 use Rattle.judging.proofs.Rows.{row_first, row_bad, row_alone}
 
 -- ---- letters
@@ -58,23 +56,6 @@ module _ (label : List ℕ) (bases : Bases label) (o b : ℕ) where
       → t ≡ preceded label o b
   preceded_on h l e q =
       q ∙ ap (λ (v : ℕ). eqb b (3 - v)) (e ∙ code_is label (o - 1) (omega arith) bases) ∙ sym (rw (ne_eqb o 0 h))
-
-module _ (K : ℕ) (label : List ℕ) (o : ℕ) (s : Side) (mark : ℕ) {e b : ℕ} (ee : e ≡ end_in mark s) (eb : b ≡ leaving s e) {r : Bool}
-    (er : r ≡ followed K label o b) where
-  on_is : r ≡ followed K label o (leaving s (end_in mark s))
-  on_is = er ∙ ap (followed K label o) (eb ∙ ap (leaving s) ee)
-
-  pub joined_no : r ≡ false → false ≡ joined_by K label o s (end_in mark)
-  joined_no h = let f : followed K label o (leaving s (end_in mark s)) ≡ false = sym on_is ∙ h in rw f
-
-  pub joined_on : r ≡ true → {t : Side} → t ≡ opposite s → {d c : ℕ} → d ≡ end_in mark t → c ≡ leaving t d → {z : Bool} → z
-      ≡ preceded label o c
-      → z ≡ joined_by K label o s (end_in mark)
-  joined_on h et {d} {c} ed ec ez =
-      let f : followed K label o (leaving s (end_in mark s)) ≡ true = sym on_is ∙ h in
-      let g : c ≡ leaving (opposite s) (end_in mark (opposite s)) =
-      ec ∙ ap₂ (λ (u : Side) (v : ℕ). leaving u v) et (ed ∙ ap (end_in mark) et) in
-      ez ∙ ap (preceded label o) g ∙ sym (rw f)
 
 -- ---- a step told by letters
 

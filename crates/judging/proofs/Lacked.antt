@@ -1,6 +1,6 @@
 -- A k-mer that is only missing: its vertex is neither visited nor isolated. Assumes nothing.
-use Prim.Native.Nat.{ℕ, ◌+◌, ◌≤◌, ◌<◌}
-use mathlib.Core.Path.{◌≡◌, refl, sym, ap, ◌∙◌}
+use Prim.Native.Nat.{ℕ, ◌≤◌, ◌<◌}
+use mathlib.Core.Path.{◌≡◌, sym, ap, ◌∙◌}
 use mathlib.Core.Logic.{⊎_elim}
 use mathlib.Core.Bool.{Bool, true, false, not, ◌&&◌}
 use mathlib.Core.List.{List}
@@ -9,7 +9,7 @@ use borrow.Author.Tests.{eqb-true, eq-eqb, ltb-false, le-ltb, not-true}
 use lib.Dec.{eqb}
 use lib.ListN.{length, get_or}
 use Rattle.lemmas.proofs.Tests.{both, never, or_first, or_second, same_bool}
-use Rattle.lemmas.proofs.Numbers.{true_or_false, lt_or_ge}
+use Rattle.lemmas.proofs.Numbers.{true_or_false}
 use Rattle.graph.specs.Table.{rank, stored}
 use Rattle.graph.specs.Walks.{visited, isolated}
 use Rattle.graph.proofs.Rank.{stored_lt}
@@ -23,23 +23,6 @@ use Rattle.rules.proofs.Telling.{any_found, found_any}
 use Rattle.rules.proofs.Standing.{key_stands}
 use Rattle.marks.specs.Ready.{keys_for, Ready}
 use Rattle.judging.specs.Standing.{Stood, stands_in, skipped, Lacking}
-
--- ---- the loop
-
-abbrev pub AllSkipped : List ℕ → ℕ → Type 0
-AllSkipped ms v = (w : ℕ) → w < v → skipped ms w ≡ true
-
-module _ (ms : List ℕ) (v : ℕ) (s : AllSkipped ms v) {r : Bool} (e : r ≡ skipped ms v) where
-  pub lacking_found : v < length ms → r ≡ false → Lacking ms true
-  lacking_found h q = record { one = λ _. (v, h, sym e ∙ q); none = λ z. never true refl z }
-
-  pub lacking_next : r ≡ true → AllSkipped ms (v + 1)
-  lacking_next q w h = ⊎_elim (λ l. s w l) (λ l. let n : v ≡ w = omega arith in ap (skipped ms) (sym n) ∙ sym e ∙ q) (lt_or_ge w v)
-
-pub lacking_end : (ms : List ℕ) (v : ℕ) → AllSkipped ms v → length ms ≤ v → Lacking ms false
-lacking_end ms v s h = record { one = λ z. never false z refl; none = λ _ w l. s w (omega arith) }
-
--- ---- what it tells
 
 module _ {K : ℕ} {keys ms₀ ms : List ℕ} (ready : Ready K keys ms₀) (kept : ends ms ≡ ends ms₀) (ls : List (List ℕ))
     (s : Stood (keys_for ms₀ keys) ms (stands_in K ls)) {r : Bool} (l : Lacking ms r) where

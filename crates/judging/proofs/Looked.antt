@@ -1,11 +1,11 @@
 -- A k-mer that was looked up, and what its tests tell. Assumes nothing.
 use Prim.Native.Nat.{ℕ, ◌+◌, ◌-◌, ◌%◌, ◌^◌, ◌≤◌, ◌<◌, min}
 use mathlib.Core.Path.{◌≡◌, refl, sym, ap, ap₂, ◌∙◌, subst}
-use mathlib.Core.Bool.{Bool, true, false, cond, not, ◌&&◌}
+use mathlib.Core.Bool.{Bool, true, false, cond, ◌&&◌}
 use mathlib.Core.List.{List}
 use native.Mathlib.Omega.{arith}
-use borrow.Author.Tests.{ltb-true, ltb-false, lt-ltb, le-ltb, le-leb, lt-leb}
-use lib.Dec.{ltb, eqb}
+use borrow.Author.Tests.{ltb-true, ltb-false, le-ltb, le-leb, lt-leb}
+use lib.Dec.{ltb}
 use lib.ListN.{length, get_or, take, drop}
 use Rattle.std.proofs.Common.{Result, Ok, Err}
 use Rattle.lemmas.proofs.Tests.{choose}
@@ -32,7 +32,7 @@ use Rattle.laws.proofs.Sides.{leaving_lt}
 use Rattle.directory.specs.Directory.{find_by}
 use Rattle.marks.specs.Marks.{end_in, ends}
 use Rattle.marks.proofs.Marking.{edge_is}
-use Rattle.rules.specs.Verdict.{leads_to, after, exit, is_step, is_one_base, apart, loose_end}
+use Rattle.rules.specs.Verdict.{leads_to, after, exit, is_step, apart, loose_end}
 use Rattle.judging.proofs.Finding.{at_is, gap_is, at_lt}
 use Rattle.judging.specs.declared.Seen.{Seen}
 use Rattle.marks.specs.Ready.{keys_for, Ready}
@@ -113,27 +113,8 @@ after_is K x s k {b} {c} e l f t =
     let m : c < 4 = subst (λ (z : ℕ). z < 4) (sym g) (leaving_lt s (end_in x.mark s) l) in
     rolled_is K x.here k.ok k.here c m t ∙ ap (λ (z : ℕ). Ok (kmer_of (forward K (value_of x.here) z))) g
 
-pub step_no : (K : ℕ) (x y : Seen) {s : Side} {r : Bool} → s ≡ exit_of x → r ≡ leads_by K x s (value_of y.here) → r ≡ false
-    → false ≡ step_by K x y
-step_no K x y e q h = let f : leads_by K x (exit_of x) (value_of y.here)
-    ≡ false = ap (λ (s : Side). leads_by K x s (value_of y.here)) (sym e) ∙ sym q ∙ h in sym (rw f)
-
-pub step_on : (K : ℕ) (x y : Seen) {s t u : Side} {z : Seen} {r b : Bool} → s ≡ exit_of x → r ≡ leads_by K x s (value_of y.here) → r ≡ true
-    → z ≡ turned_of y → t ≡ exit_of y → u ≡ opposite t → b ≡ leads_by K z u (value_of x.other) → b ≡ step_by K x y
-step_on K x y e q h ez et eu eb =
-    let f : leads_by K x (exit_of x) (value_of y.here) ≡ true = ap (λ (s : Side). leads_by K x s (value_of y.here)) (sym e) ∙ sym q ∙ h in
-    eb ∙ ap₂ (λ (w : Seen) (v : Side). leads_by K w v (value_of x.other)) ez (eu ∙ ap opposite et) ∙ sym (rw f)
-
 pub kmers_turned : {K : ℕ} {y z : Seen} → z ≡ turned_of y → Kmers K y → Kmers K z
 kmers_turned e k = rw e (record { ok = k.ok; here = k.other; other = k.here })
-
--- A roll by its own last base.
-pub one_base_is : (K : ℕ) (x : Kmer) → ok_k K ≡ true → value_of x < 4 ^ K → {b : ℕ} → b ≡ min (get_or x.words 0 0 % 4) 5
-    → {r : Result Kmer KmerError} → Answers r (forward_call K (value_of x) b)
-    → r ≡ Ok (kmer_of (forward K (value_of x) (value_of x % 4)))
-one_base_is K x ok l {b} e a =
-    let m : b ≡ value_of x % 4 = omega arith in
-    rolled_is K x ok l b (omega arith) a ∙ ap (λ (z : ℕ). Ok (kmer_of (forward K (value_of x) z))) m
 
 -- ---- what the tests tell of a k-mer that was looked up
 
@@ -176,11 +157,6 @@ module _ {K : ℕ} {ks : List ℕ} {es : List Ends} where
   sees_canon {x} {s} g = lesser_canon K s.here s.other x g.here g.other
 
 -- ---- an end
-
-pub canon_small : {K v : ℕ} {x : Seen} → Kmers K x → v ≡ lesser_of x.here x.other → v < 4 ^ K
-canon_small {K} {x = x} k e =
-    subst (λ (n : ℕ). n < 4 ^ K) (sym e)
-    (choose (λ (n : ℕ). n < 4 ^ K) (ltb (value_of x.other) (value_of x.here)) (λ _. k.other) (λ _. k.here))
 
 pub after_small : (K : ℕ) {v : ℕ} (x : Seen) (s : Side) → v ≡ after_of K x s → v < 4 ^ K
 after_small K x s e = subst (λ (n : ℕ). n < 4 ^ K) (sym e) (forward_lt K (value_of x.here) (leaving s (end_in x.mark s)))

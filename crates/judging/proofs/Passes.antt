@@ -144,9 +144,6 @@ module _ (text : List ℕ) (i : ℕ) (before : Option Span) (at : ℕ) (o : Orde
   pub ordering_record : (K : ℕ) → is_held (listing K text) ≡ true → at < length text → Recorded text at
   ordering_record K q h = pass_record K text breaks1 (o.passing K q).1 h
 
-  pub ordering_few : (K : ℕ) → is_held (listing K text) ≡ true → i ≤ length text
-  ordering_few K q = let p = (o.passing K q).1 in omega (arith, p.few, p.inside)
-
   pub ordering_end : length text ≤ at → (K : ℕ) → is_held (listing K text) ≡ true → Finds breaks1 (labels_in (listing K text)) None
   ordering_end h K q = pass_end K text breaks1 (o.passing K q).1 h
 

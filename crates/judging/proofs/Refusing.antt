@@ -17,16 +17,15 @@ use Rattle.state.specs.Counted.{Kind, answers_for}
 use Rattle.graph.specs.Table.{keys_of, table_of, fit_for}
 use Rattle.graph.specs.Walks.{Ends, ends_of}
 use Rattle.graph.specs.Contraction.{ends_in}
-use Rattle.graph.proofs.Accepted.{fit_for_both}
 use Rattle.table.specs.Calls.{fit_answer, fit_call}
 use Rattle.table.specs.declared.FitError.{FitError}
 use Rattle.table.specs.declared.FitError.TheVariants as fits
 use Rattle.table.proofs.Told.{told_unsupported, told_unfit, told_fit}
 use Rattle.marks.specs.Marks.{mark_of, ends}
 use Rattle.marks.proofs.Marking.{ends_length}
-use Rattle.marks.proofs.Made.{fit_first, long, ends_are}
+use Rattle.marks.proofs.Made.{long, ends_are}
 use Rattle.rules.specs.Listing.{Listing, holds, no_list, listing}
-use Rattle.rules.specs.Verdict.{Test, Verdict, yes, no, first_of, breaks1, breaks2, breaks3, breaks4, lacks, verdict}
+use Rattle.rules.specs.Verdict.{Test, Verdict, no, first_of, breaks1, breaks2, breaks3, lacks, verdict}
 use Rattle.rules.specs.Judging.{judge, on_list}
 use Rattle.rules.proofs.Firsts.{first_le}
 use Rattle.judging.specs.declared.AllPlaced.{AllPlaced}
@@ -53,15 +52,6 @@ module _ (test : Test) (ls : List (List ℕ)) {f : Option ℕ} (g : Finds test l
       let h : Finds test ls None = subst (Finds test ls) e g in
       (le-ltb (first_of test [] ls) (length ls) h, h)
 
--- ---- rule 4
-
-module _ (K : ℕ) (ks : List ℕ) (es : List Ends) (ls : List (List ℕ)) {f : Option ℕ} (g : Finds (breaks4 K ks es) ls f) where
-  pub fourth_broken : {i : ℕ} → f ≡ Some i → gives (no 4 i) ≡ gives (ends_verdict K ks es ls)
-  fourth_broken e = let h = some_found (breaks4 K ks es) ls g e in rw (h.0, h.1)
-
-  pub all_kept : f ≡ None → gives yes ≡ gives (ends_verdict K ks es ls)
-  all_kept e = let h = none_found (breaks4 K ks es) ls g e in rw h.0
-
 -- ---- rules 2 and 3
 
 module _ {K : ℕ} {keys ms text after : List ℕ} (ready : Ready K keys ms) {f : Result AllPlaced ℕ} (p : Placed K keys ms text f after) where
@@ -73,9 +63,6 @@ module _ {K : ℕ} {keys ms text after : List ℕ} (ready : Ready K keys ms) {f 
 
   abbrev test3 : Test
   test3 = breaks3 K (keys_for ms keys) (ends ms)
-
-  pub second_broken : {i : ℕ} → f ≡ Err i → gives (no 2 i) ≡ gives (kmers_verdict K (keys_for ms keys) (ends ms) labels)
-  second_broken e = let h = some_found test2 labels p.found (ap first_in e) in rw (h.0, h.1)
 
   module _ {all : AllPlaced} (q : f ≡ Ok all) {r : Bool} (l : Lacking after r) where
     none_misplaced : (ltb (first_of test2 [] labels) (length labels) ≡ false) × (length labels ≤ first_of test2 [] labels)
@@ -189,9 +176,6 @@ module _ (κ : Kind) (K cutoff n : ℕ) (keys counts text marks : List ℕ) wher
       few_marks a h = rw (ok.0, ok.1, a, lt-ltb (length marks) n h) stays
 
       module _ (a : answers_for κ cutoff ≡ true) (h : n ≤ length marks) where
-        pub lent_first : FitTable K keys counts (take n marks)
-        lent_first = fit_first K n keys counts marks ok.0 (fit_for_both κ K n keys counts ok.1).0 h
-
         pub even_K : K % 2 ≡ 0 → Judges (Err errors.EvenK) marks (judge κ K cutoff n keys counts text marks)
         unfolding judge
         even_K q = rw (ok.0, ok.1, a, le-ltb (length marks) n h, eq-eqb (K % 2) 0 q) stays

@@ -24,7 +24,14 @@ pub(crate) fn has_loose_end(
     let first = seeing::see_window(k, keys, directory, marks, label, 0);
     let last = seeing::see_window(k, keys, directory, marks, label, label.len() - k);
     seeing::is_loose(k, keys, directory, marks, first, last)
-        || seeing::is_loose(k, keys, directory, marks, seeing::turned(last), seeing::turned(first))
+        || seeing::is_loose(
+            k,
+            keys,
+            directory,
+            marks,
+            seeing::turned(last),
+            seeing::turned(first),
+        )
 }
 
 // The first label with a loose end.

@@ -17,7 +17,13 @@ use super::{Broken, JudgeError, ending, order, places, standing};
 use state::EdgeKind;
 
 // Rule 4 of a list that keeps the others.
-fn judge_ends(k: usize, keys: &[u64], directory: &[u32], marks: &[u8], text: &[u8]) -> Option<Broken>
+fn judge_ends(
+    k: usize,
+    keys: &[u64],
+    directory: &[u32],
+    marks: &[u8],
+    text: &[u8],
+) -> Option<Broken>
     requires { Ready k keys.now marks.now × (is_held (listing k text.now) ≡ true) }
     ensures { judge_answer (Ok result) ≡ gives (ends_verdict k (keys_for marks.now keys.now)
         (ends marks.now) (labels_in (listing k text.now))) }

@@ -14,7 +14,14 @@ fn is_not_behind(text: &[u8], before: Option<Span>, label: Span) -> bool
         ≡ not_behind done (spanned text.now label) }
 {
     match before {
-        Some(b) => sorting::compare(text, b.start, b.end - b.start, label.start, label.end - label.start).is_ge(),
+        Some(b) => sorting::compare(
+            text,
+            b.start,
+            b.end - b.start,
+            label.start,
+            label.end - label.start,
+        )
+        .is_ge(),
         None => false,
     }
 }

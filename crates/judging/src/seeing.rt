@@ -73,7 +73,11 @@ pub(crate) fn turned(x: Seen) -> Seen
 fn exit(x: Seen) -> Side
     ensures { result ≡ exit_of x }
 {
-    if x.other.is_less(x.here) { Side::Front } else { Side::Back }
+    if x.other.is_less(x.here) {
+        Side::Front
+    } else {
+        Side::Back
+    }
 }
 
 // The k-mer that follows x by the only edge retained on a side.

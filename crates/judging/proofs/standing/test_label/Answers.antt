@@ -41,11 +41,11 @@ loop-o-preserved c =
     let h : a.k ≤ length a.label.now = c.requires.1.1 in
     let inside : c.loop-o.o + a.k ≤ length a.label.now = omega (arith, c.loop-o-test.true) in
     let next = λ (n : is_misplaced c.test_window.result ≡ false).
-        testing_next i.testing (omega (arith, c.loop-o-test.true)) refl c.test_window.ensures.placed n in
+    testing_next i.testing (omega (arith, c.loop-o-test.true)) refl c.test_window.ensures.placed n in
     let joined = λ (n : is_misplaced c.test_window.result ≡ false) (worse : Bool)
-        (w : worse ≡ (is_bad c.loop-o.found || is_bad c.test_window.result)).
-        joining_next a.k (keys_for a.marks.now a.keys.now) (ends a.marks.now) a.label.now (ok_bounds a.k c.requires.0.ok).0
-        (plain_bases a.label.now c.requires.1.0) c.loop-o.o inside i.joining (testing_joined i.testing c.test_window.ensures n) w in
+    (w : worse ≡ (is_bad c.loop-o.found || is_bad c.test_window.result)).
+    joining_next a.k (keys_for a.marks.now a.keys.now) (ends a.marks.now) a.label.now (ok_bounds a.k c.requires.0.ok).0
+    (plain_bases a.label.now c.requires.1.0) c.loop-o.o inside i.joining (testing_joined i.testing c.test_window.ensures n) w in
     elim c.match-test_window.branch [
       | in-BadStep w ↦
           let n = ap is_misplaced w.in-BadStep.is in

@@ -40,13 +40,17 @@ loop-at-preserved c =
     let p = c.loop-at.invariant.1 in
     elim c.match-test_label.branch [
       | in-BadStep w ↦
-          let told = w.in-BadStep.is in
-          (_, placing_bad p c.loop-at-test.true c.label_at-label.ensures c.test_label.ensures
-          (ap is_misplaced told) (ap is_bad told) w.good-is)
+          let told = w.in-BadStep.is in (
+            _,
+            placing_bad p c.loop-at-test.true c.label_at-label.ensures c.test_label.ensures
+                (ap is_misplaced told) (ap is_bad told) w.good-is,
+          )
       | in-Fine w ↦
-          let told = w.in-Fine.is in
-          (_, placing_fine p c.loop-at-test.true c.label_at-label.ensures c.test_label.ensures
-          (ap is_misplaced told) (ap is_bad told) (w.good-is ∙ w.one_more-good.ensures))
+          let told = w.in-Fine.is in (
+            _,
+            placing_fine p c.loop-at-test.true c.label_at-label.ensures c.test_label.ensures
+                (ap is_misplaced told) (ap is_bad told) (w.good-is ∙ w.one_more-good.ensures),
+          )
     ]
 
 pub returns : goal.returns
