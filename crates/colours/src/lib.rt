@@ -51,10 +51,7 @@ impl ColorCoordinate {
     pub fn from_u40(value: u64) -> Result<ColorCoordinate, OutOfRange>
         ensures { coordinate_answer result ≡ u40_call value }
     {
-        if value > 0xff_ffff_ffff {
-            return Err(OutOfRange);
-        }
-        Ok(ColorCoordinate(value))
+        ColorCoordinate(value).as_u40().map(ColorCoordinate)
     }
 
     pub fn is_in_process(self) -> bool
