@@ -1,7 +1,6 @@
--- Each turn complements one more letter. Assumes nothing.
-use Rattle.std.proofs.Common.{◌≡◌, ◌++◌, map, take, drop}
-use Rattle.dna.specs.Letters.{complement_letter}
+-- Each turn exchanges two more places. Assumes nothing.
+use Rattle.strands.proofs.Turning.{Turned}
 use Rattle.strands.proofs.turn.Given as goal
 
-abbrev pub invariant-loop-byte : goal.invariant-loop-byte
-invariant-loop-byte l = l.label ≡ map complement_letter (take l.byte-index l.initial.label) ++ drop l.byte-index l.initial.label
+abbrev pub invariant-loop-i : goal.invariant-loop-i
+invariant-loop-i l = Turned l.initial.label l.label l.i
