@@ -1,8 +1,8 @@
 -- An anchor's label from its two walks: its length, whether a vertex was missing, and the marks that the walks leave. Assumes nothing.
 use mathlib.Core.Path.{◌≡◌, refl, sym, ap, ◌∙◌}
-use mathlib.Core.Bool.{Bool, true, false, cond, ◌||◌, or-true}
+use mathlib.Core.Bool.{Bool, true, false, cond, or-true}
 use mathlib.Core.List.{List, ◌++◌, map}
-use Prim.Native.Nat.{ℕ, ◌+◌, ◌≤◌}
+use Prim.Native.Nat.{ℕ, ◌+◌}
 use native.Mathlib.Omega.{arith}
 use lib.ListN.{length, get_or, length-append, length-map}
 use Rattle.dna.specs.Letters.{letter_of, reverse_complement}
@@ -20,13 +20,12 @@ use Rattle.marks.specs.Marks.{ends}
 use Rattle.contraction.specs.Over.{walk_in, label_in}
 use Rattle.contraction.specs.Says.{Walks, Extracts, Misses}
 use Rattle.contraction.specs.Trail.{piece_in}
-use Rattle.contraction.specs.declared.Label.{Label}
 use Rattle.contraction.specs.declared.ContractError.TheVariants.{MissingVertex}
 use Rattle.contraction.specs.declared.Walked.{Walked}
 use Rattle.marks.proofs.Marking.{ends_length}
 use Rattle.marks.specs.Ready.{keys_for, Ready}
 use Rattle.contraction.proofs.Still.{walk_still}
-use Rattle.contraction.proofs.Placing.{Placed, placed_length}
+use Rattle.contraction.proofs.Placing.{Placed}
 
 spelt_length : (K x : ℕ) (w : Walk) → length (spelt K x w) ≡ K + length w.bases
 spelt_length K x w =

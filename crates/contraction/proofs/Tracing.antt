@@ -15,11 +15,9 @@ use Rattle.contraction.specs.Says.{Spells}
 use Rattle.contraction.specs.Trail.{piece_in}
 use Rattle.contraction.specs.declared.Walked.{Walked}
 use Rattle.contraction.proofs.Labelling.{front_is}
-use Rattle.marks.proofs.Marking.{ends_length}
 use Rattle.marks.specs.Ready.{keys_for, Ready}
-use Rattle.marks.proofs.Still.{ready_still}
 use Rattle.contraction.proofs.Pieces.{closed_long, open_long}
-use Rattle.contraction.proofs.Placing.{Placed, placed_first, placed_length, placed_more, placed_one}
+use Rattle.contraction.proofs.Placing.{Placed, placed_first, placed_more, placed_one}
 
 -- What is asked: the anchor is a vertex, and its piece has room from a place on.
 pub record Asked (K : ℕ) (keys ms : List ℕ) (a : ℕ) (trail : List ℕ) (at : ℕ) : Type 0 where

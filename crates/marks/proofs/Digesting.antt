@@ -1,11 +1,11 @@
 -- Each cell of a slice computed from that of another, one after the other. Assumes nothing.
 use mathlib.Core.Path.{◌≡◌, sym, ap, ◌∙◌}
 use mathlib.Core.List.{List, map}
-use Prim.Native.Nat.{ℕ, suc, ◌+◌, ◌≤◌, ◌<◌, min}
+use Prim.Native.Nat.{ℕ, ◌+◌, ◌≤◌, ◌<◌, min}
 use native.Mathlib.Omega.{arith}
-use lib.ListN.{length, get_or, take, drop, set, length-map, length-take}
-use lib.Seq.{length-take-le, drop-cons, get_or_at, get_or-take}
-use Rattle.lemmas.proofs.Building.{Built, built_more, built_all, built_whole}
+use lib.ListN.{length, get_or, take, set, length-map, length-take}
+use lib.Seq.{get_or-take}
+use Rattle.lemmas.proofs.Building.{Built, built_more, built_all}
 use Rattle.lemmas.proofs.Lists.{get_d_map}
 use Rattle.dna.specs.Text.{over}
 use Rattle.dna.proofs.Overwriting.{over_all}

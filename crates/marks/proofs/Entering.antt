@@ -1,13 +1,12 @@
 -- Whether a walk enters a vertex, as its mark says. Assumes nothing.
-use mathlib.Core.Path.{◌≡◌, sym, ap, ◌∙◌}
-use mathlib.Core.Bool.{Bool, not, ◌&&◌, cond}
+use mathlib.Core.Path.{◌≡◌}
+use mathlib.Core.Bool.{not, ◌&&◌, cond}
 use mathlib.Core.List.{List}
 use Prim.Native.Nat.{ℕ, ◌/◌, ◌≤◌, ◌<◌}
 use lib.Dec.{eqb}
 use lib.ListN.{length, get_or}
 use Rattle.state.specs.declared.Side.{Side}
 use Rattle.state.specs.Counted.{opposite, same_side}
-use Rattle.graph.specs.declared.Step.{Step}
 use Rattle.graph.specs.declared.Step.TheVariants.{Next, Stop}
 use Rattle.graph.specs.declared.StopReason.TheVariants.{BranchingAhead, VisitedAhead}
 use Rattle.graph.specs.Walks.{enter}

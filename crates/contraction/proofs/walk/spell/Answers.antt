@@ -2,11 +2,9 @@ use mathlib.Core.Path.{refl, ap, ◌∙◌}
 use native.Mathlib.Omega.{arith}
 use Rattle.dna.specs.Letters.{letter_of}
 use Rattle.kmer.specs.Kmer.{forward}
-use Rattle.marks.proofs.Marking.{ends_length}
-use Rattle.marks.proofs.Still.{ready_still}
-use Rattle.contraction.proofs.Rolling.{both_here, both_on, both_still}
+use Rattle.contraction.proofs.Rolling.{both_on}
 use Rattle.contraction.proofs.Stepping.{code_small}
-use Rattle.contraction.proofs.Walking.{walk_few, walking_start, walking_less, walking_next, walking_base, walking_seen, walking_ends, not_next}
+use Rattle.contraction.proofs.Walking.{walking_start, walking_less, walking_next, walking_base, walking_seen, walking_ends, not_next}
 use Rattle.contraction.proofs.Spelling.{spelling_start, spelling_length, spelling_next, spelling_ends}
 use Rattle.contraction.proofs.walk.spell.Goals as goal
 

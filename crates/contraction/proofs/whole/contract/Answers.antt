@@ -1,6 +1,5 @@
 -- Each refusal is a case of the definition, in its order; what is left is the contraction of a fit table. Assumes nothing.
 use mathlib.Core.Path.{sym, ◌∙◌}
-use lib.Seq.{length-take-le}
 use Rattle.std.proofs.lemmas.Result.{err_from_is_err_and}
 use Rattle.contraction.proofs.Firsts.{first_marks}
 use Rattle.contraction.proofs.Refusals.{unfit, wrong_cutoff, few_marks, lent_first, goes_on}
