@@ -22,7 +22,7 @@ use Rattle.graph.proofs.Accepted.{fit_length, fit_sound}
 use Rattle.table.specs.Join.{join_call, Joining, Joins}
 use Rattle.table.specs.declared.JoinError.{JoinError}
 use Rattle.adding.specs.Batch.{sorted_new, Grouped, Raised}
-use Rattle.adding.specs.Says.{add_answer, Addable, Adds}
+use Rattle.adding.specs.Says.{Addable, Adds}
 use Rattle.adding.specs.declared.AddError.TheVariants as add
 use Rattle.adding.proofs.Batch.{batch, batch_number, batch_few}
 

@@ -3,13 +3,12 @@ use mathlib.Core.Path.{◌≡◌, refl, sym, ap, ◌∙◌}
 use mathlib.Core.Bool.{true}
 use mathlib.Core.List.{List, [], ◌∷◌}
 use Prim.Native.Nat.{ℕ, suc, ◌+◌, ◌-◌, ◌≤◌, ◌<◌}
-use native.Mathlib.Nat.{not-suc-le-zero}
 use native.Mathlib.Numerals.{add-one}
 use native.Mathlib.Omega.{arith}
 use lib.ListN.{length, get_or, take, drop}
 use lib.Seq.{drop-cons}
 use Rattle.std.specs.Prelude.{Result, Ok, Err}
-use Rattle.dna.specs.Answer.{gives, refuses}
+use Rattle.dna.specs.Answer.{refuses}
 use Rattle.state.specs.Counted.{Kind}
 use Rattle.label_index.specs.Entries.{within, listed}
 use Rattle.label_index.proofs.Entries.{within_long, within_at}

@@ -8,7 +8,7 @@ use Rattle.kmer.specs.Says.{value_of}
 use Rattle.kmer.proofs.Windows.{Bases}
 use Rattle.state.specs.Counted.{Kind}
 use Rattle.graph.specs.Table.{keys_of, fit, fit_for, fit_from, rank}
-use Rattle.graph.specs.Sightings.{Rule, same_canonical, reversed, window, windows}
+use Rattle.graph.specs.Sightings.{Rule, same_canonical, reversed, window}
 use Rattle.graph.specs.Adding.{Edges, Added}
 use Rattle.graph.specs.Several.{Several}
 use Rattle.table.specs.declared.FitError.{FitError}

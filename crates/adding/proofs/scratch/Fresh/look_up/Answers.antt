@@ -1,6 +1,4 @@
 use native.Mathlib.Omega.{arith}
-use Prim.Native.Nat.{◌<◌}
-use lib.ListN.{length}
 use Rattle.kmer.specs.Says.{value_of}
 use Rattle.adding.specs.Says.{rule_of}
 use Rattle.adding.proofs.Coding.{code_small}
