@@ -41,14 +41,6 @@ pub bits_code : (label : List ℕ) (i : ℕ) → i < length label → Bases labe
     → valid_bits (get_or label i 0) ≡ code_of (get_or label i 0)
 bits_code label i h b = valid_code (get_or label i 0) (lt-ltb (code_of (get_or label i 0)) 4 (bases_at label i h b))
 
-pub complement_is : (c : ℕ) → c < 4 → 3 - c ≡ complement c
-unfolding complement
-complement_is c h = rw (lt-ltb c 4 h)
-
-pub complement_kept : (c : ℕ) → 4 ≤ c → c ≡ complement c
-unfolding complement
-complement_kept c h = rw (le-ltb c 4 h)
-
 -- As the window is seen.
 module _ (rule : Rule) (K : ℕ) (label : List ℕ) (i : ℕ) {p q : ℕ} (ep : p ≡ predecessor rule K label i)
     (eq : q ≡ successor K label i)

@@ -1,11 +1,13 @@
 // A label's windows, one at a time.
 ghost use Rattle.std.specs.Prelude.{◌≡◌, ◌+◌, ◌≤◌, length};
-ghost use Rattle.dna.specs.Letters.{complement};
+ghost use Rattle.dna.specs.Calls.{code_in};
+ghost use Rattle.dna.specs.Letters.{valid_bits};
 ghost use Rattle.graph.specs.Sightings.{predecessor, successor};
 ghost use Rattle.adding.specs.Batch.{code_at};
 ghost use Rattle.adding.specs.Says.{rule_of, skipped, Given, Sees, Follows};
 
 use super::{Mode, Seen};
+use dna::Base;
 use kmer::Kmer;
 
 // Window o, packed from the part of the label that starts at its offset.
@@ -33,33 +35,41 @@ fn skips(mode: Mode, previous: Seen, here: Seen) -> bool
     }
 }
 
+// A letter that is known to be a base.
+fn base_of(letter: u8) -> Base
+    ensures { code_in result ≡ valid_bits letter }
+{
+    Base::from_bits(dna::valid_ascii_base_bits(letter))
+}
+
 // The base before window o; E where there is none, or where it is left uncounted.
-fn before_of(mode: Mode, k: usize, label: &[u8], o: usize, previous: Option<Seen>, here: Seen) -> u8
+fn before_of(
+    mode: Mode,
+    k: usize,
+    label: &[u8],
+    o: usize,
+    previous: Option<Seen>,
+    here: Seen,
+) -> Base
     requires { Given k label.now × (o + k ≤ length label.now) × Follows k label.now o previous here }
-    ensures { result ≡ predecessor (rule_of mode) k label.now o }
+    ensures { code_in result ≡ predecessor (rule_of mode) k label.now o }
 {
     match previous {
-        None => 5,
-        Some(previous) if skips(mode, previous, here) => 5,
-        Some(_) => dna::valid_ascii_base_bits(label[o - 1]),
+        None => Base::E,
+        Some(previous) if skips(mode, previous, here) => Base::E,
+        Some(_) => base_of(label[o - 1]),
     }
 }
 
 // The base after window o, E where there is none.
-fn after_of(k: usize, label: &[u8], o: usize) -> u8
+fn after_of(k: usize, label: &[u8], o: usize) -> Base
     requires { Given k label.now × (o + k ≤ length label.now) }
-    ensures { result ≡ successor k label.now o }
+    ensures { code_in result ≡ successor k label.now o }
 {
     match label.get(o + k) {
-        Some(&byte) => dna::valid_ascii_base_bits(byte),
-        None => 5,
+        Some(&byte) => base_of(byte),
+        None => Base::E,
     }
-}
-
-fn other(code: u8) -> u8
-    ensures { result ≡ complement code }
-{
-    if code < 4 { 3 - code } else { code }
 }
 
 // Window o's neighbours in one number: seen canonical, its predecessor on Front and its successor on Back; otherwise
@@ -78,8 +88,8 @@ pub(crate) fn code_of(
     let before = before_of(mode, k, label, o, previous, seen);
     let after = after_of(k, label, o);
     if seen.straight {
-        before + 8 * after
+        before.bits() + 8 * after.bits()
     } else {
-        other(after) + 8 * other(before)
+        after.complement().bits() + 8 * before.complement().bits()
     }
 }

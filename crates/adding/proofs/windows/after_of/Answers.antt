@@ -9,7 +9,7 @@ pub returns-in-Some : goal.returns-in-Some
 returns-in-Some c =
     let e = c.args.o + c.args.k in
     let here = c.in-Some.ensures.lookup.3 in
-    c.valid_ascii_base_bits.ensures
+    c.base_of.ensures
     ∙ ap valid_bits (here.1 0)
     ∙ bits_code c.args.label.now e here.0 c.requires.0.bases
     ∙ next_counts c.args.k c.args.label.now c.args.o here.0

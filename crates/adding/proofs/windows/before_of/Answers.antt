@@ -25,7 +25,7 @@ returns-in-Some-2 c =
     let label = c.args.label.now in
     let before = rw c.in-Some.is at c.requires.2.previous in
     let i : c.args.o - 1 < length label = omega (arith, c.requires.1, c.requires.0.low) in
-    c.valid_ascii_base_bits.ensures
+    c.base_of.ensures
     ∙ bits_code label (c.args.o - 1) i c.requires.0.bases
     ∙ predecessor_is (rule_of c.args.mode) c.args.k label before.1.0 false
     (test_is c.args.mode c.requires.0 c.requires.1 before.1.0 before.1.1 c.requires.2.here
