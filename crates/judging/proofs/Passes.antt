@@ -8,6 +8,7 @@ use native.Mathlib.Omega.{arith}
 use borrow.Author.Tests.{ne_eqb, ltb-false, lt-ltb, le-ltb}
 use lib.Dec.{ltb}
 use Rattle.std.proofs.Common.{Option, Some, None, Ok, Err, IfSome}
+use Rattle.std.specs.Option.{option_or}
 use lib.ListN.{length, drop, replicate, length-drop}
 use Rattle.lemmas.proofs.Tests.{choose, never}
 use Rattle.lemmas.proofs.Numbers.{lt_or_ge}
@@ -28,7 +29,7 @@ use Rattle.judging.specs.declared.AllPlaced.{AllPlaced}
 use Rattle.judging.specs.Places.{is_held, Recorded, Spans}
 use Rattle.judging.specs.declared.Span.{Span}
 use Rattle.marks.specs.Ready.{keys_for, Ready, Unvisited}
-use Rattle.judging.specs.Standing.{is_misplaced, is_bad, Stood, stands_in, Stands, one_more, Placed, Placing}
+use Rattle.judging.specs.Standing.{is_misplaced, is_bad, Stood, stands_in, Stands, Noted, Placed, Placing}
 use Rattle.marks.proofs.Still.{ready_still}
 use Rattle.judging.specs.Passing.{labels_in, Finds, Passing, spanned, Follows, Follows.nothing, Follows.behind}
 
@@ -163,7 +164,7 @@ module _ (text : List ℕ) (i : ℕ) (before : Option Span) (at : ℕ) (o : Orde
 -- ---- rule 2
 
 pub placing_start : {K : ℕ} {keys ms text : List ℕ} → Ready K keys ms → Unvisited ms → is_held (listing K text) ≡ true
-    → Placing K keys ms text ms [] 0 0 0
+    → Placing K keys ms text ms [] None 0 0
 unfolding occurrences
 placing_start {K} {keys} {ms} {text} r u h = record {
   ready = r;
@@ -172,7 +173,6 @@ placing_start {K} {keys} {ms} {text} r u h = record {
   stood = λ x s. ap (λ (vs : List ℕ). visited vs (rank (keys_for ms keys) x)) u ∙ blank (length ms) (rank (keys_for ms keys) x)
       ∙ sym (le-ltb 0 0 (omega arith));
   split = λ x. omega arith;
-  fewer = omega arith;
   noted = omega arith;
 }
   where
@@ -181,7 +181,8 @@ placing_start {K} {keys} {ms} {text} r u h = record {
     blank (suc n) zero = ne_eqb 0 1 (λ e. omega arith)
     blank (suc n) (suc v) = blank n v
 
-module _ {K : ℕ} {keys ms₀ text ms : List ℕ} {done : List (List ℕ)} {good i at : ℕ} (p : Placing K keys ms₀ text ms done good i at) where
+module _ {K : ℕ} {keys ms₀ text ms : List ℕ} {done : List (List ℕ)} {bad : Option ℕ} {i at : ℕ}
+    (p : Placing K keys ms₀ text ms done bad i at) where
   abbrev test2 : Test
   test2 = breaks2 K (keys_for ms₀ keys) (ends ms₀)
 
@@ -192,27 +193,24 @@ module _ {K : ℕ} {keys ms₀ text ms : List ℕ} {done : List (List ℕ)} {goo
   none_behind h =
       ap labels_in (listing_complete K p.passing.left) ∙ none_left K text test2 p.passing.left (omega (arith, length-drop at text))
 
-  pub placing_end : length text ≤ at → Placed K keys ms₀ text (Ok (record { labels = i; good = good })) ms
+  pub placing_end : length text ≤ at → Placed K keys ms₀ text (Ok (record { labels = i; bad = bad })) ms
   unfolding occurrences
   placing_end h = record {
     ends_kept = p.kept;
     found = pass_end K text test2 p.passing h;
-    stood = λ _ _ x s.
+    stood = λ x s.
         let z : occurrences K x (labels_in (listing K (drop at text))) ≡ 0 = rw (none_behind h) in
         let q : stands_in K done x ≡ stands_in K (labels_in (listing K text)) x = omega (arith, p.split x) in
         p.stood x s ∙ ap (ltb 0) q;
-    counted = λ q e.
-        let same : ◌≡◌ {A = AllPlaced} (record { labels = i; good = good }) q = cc in
-        pass_counted K text test2 p.passing h ∙ ap (λ (a : AllPlaced). a.labels) same;
-    stepped = λ q e.
-        let same : ◌≡◌ {A = AllPlaced} (record { labels = i; good = good }) q = cc in
-        let z : first_of test3 done (labels_in (listing K (drop at text))) ≡ 0 = ap (first_of test3 done) (none_behind h)
-        ∙ first_nil test3 done in
-        p.noted ∙ ends_at p.fewer z ∙ ap (λ (a : AllPlaced). a.good) same;
+    counted = pass_counted K text test2 p.passing h;
+    stepped = noted_all (labels_in (listing K text)) bad p.noted (ap (first_of test3 done) (none_behind h) ∙ first_nil test3 done)
+        (pass_counted K text test2 p.passing h);
   }
     where
-      ends_at : {m : ℕ} → good ≤ i → m ≡ 0 → cond (ltb good i) good (i + m) ≡ good
-      ends_at l z = choose (λ (v : ℕ). v ≡ good) (ltb good i) (λ _. refl) (λ q. omega (arith, ltb-false good i q))
+      noted_all : (ls : List (List ℕ)) {rest : ℕ} (b : Option ℕ) → Noted b i (first_of test3 [] ls) rest → rest ≡ 0
+          → length ls ≡ i → Finds test3 ls b
+      noted_all ls (Some b) n z l = (n.0, omega (arith, n.1))
+      noted_all ls None n z l = omega (arith, n)
 
   module _ (h : at < length text) {s e : ℕ} (g : Spans text at s e) where
     abbrev label2 : List ℕ
@@ -242,9 +240,9 @@ module _ {K : ℕ} {keys ms₀ text ms : List ℕ} {done : List (List ℕ)} {goo
       placing_found q = record {
         ends_kept = t.ends_kept ∙ p.kept;
         found = pass_found K text test2 p.passing h g told2 q;
-        stood = λ _ z. absurd (let w : ◌≡◌ {A = ℕ} 0 1 = cc in omega arith);
-        counted = λ _ z. absurd (let w : ◌≡◌ {A = ℕ} 0 1 = cc in omega arith);
-        stepped = λ _ z. absurd (let w : ◌≡◌ {A = ℕ} 0 1 = cc in omega arith);
+        stood = tt;
+        counted = tt;
+        stepped = tt;
       }
 
       module _ (q : is_misplaced r ≡ false) where
@@ -255,13 +253,17 @@ module _ {K : ℕ} {keys ms₀ text ms : List ℕ} {done : List (List ℕ)} {goo
             ≡ first_of test3 done (label2 ∷ labels_in (listing K (drop (e + 1) text)))
         behind3 = ap (first_of test3 done) left_is
 
+        abbrev first : ℕ
+        first = first_of test3 [] (labels_in (listing K text))
+
+        abbrev rest : ℕ
+        rest = first_of test3 (label2 ∷ done) (labels_in (listing K (drop (e + 1) text)))
+
         -- What is known of the labels up to the next one.
-        going_on : (told : ℕ) → told ≤ i + 1
-            → first_of test3 [] (labels_in (listing K text))
-            ≡ cond (ltb told (i + 1)) told (i + 1 + first_of test3 (label2 ∷ done) (labels_in (listing K (drop (e + 1) text))))
-            → Placing K keys ms₀ text after (label2 ∷ done) told (i + 1) (e + 1)
+        going_on : {told now : Option ℕ} → now ≡ told → Noted told (i + 1) first rest
+            → Placing K keys ms₀ text after (label2 ∷ done) now (i + 1) (e + 1)
         unfolding occurrences
-        going_on told l note = record {
+        going_on {told} is note = record {
           ready = ready_still p.ready t.ends_kept;
           kept = t.ends_kept ∙ p.kept;
           passing = pass_on K text test2 p.passing h g told2 q;
@@ -271,43 +273,23 @@ module _ {K : ℕ} {keys ms₀ text ms : List ℕ} {done : List (List ℕ)} {goo
               ≡ occurs K x label2 + occurrences K x (labels_in (listing K (drop (e + 1) text))) =
               ap (λ (zs : List (List ℕ)). occurrences K x zs) left_is in
               omega (arith, p.split x);
-          fewer = l;
-          noted = note;
+          noted = rw is note;
         }
 
-        pub placing_bad : is_bad r ≡ true → {n : ℕ} → n ≡ good → Placing K keys ms₀ text after (label2 ∷ done) n (i + 1) (e + 1)
+        pub placing_bad : is_bad r ≡ true → {now : Option ℕ} → now ≡ option_or bad (Some i)
+            → Placing K keys ms₀ text after (label2 ∷ done) now (i + 1) (e + 1)
         placing_bad b is =
-            let z : first_of test3 done (labels_in (listing K (drop at text))) ≡ 0 = behind3
-            ∙ first_here test3 done label2 _ (sym stepped3 ∙ b) in
-            subst (λ (n : ℕ). Placing K keys ms₀ text after (label2 ∷ done) n (i + 1) (e + 1)) (sym is)
-            (going_on good (omega (arith, p.fewer)) (p.noted ∙ stays z ∙ sym (kept _ (lt-ltb good (i + 1) (omega (arith, p.fewer))))))
+            going_on is (noted bad p.noted (behind3 ∙ first_here test3 done label2 _ (sym stepped3 ∙ b)))
           where
-            kept : {t : Bool} {v : ℕ} (w : ℕ) → t ≡ true → cond t v w ≡ v
-            kept w h = rw h
+            noted : {m : ℕ} (b : Option ℕ) → Noted b i first m → m ≡ 0 → Noted (option_or b (Some i)) (i + 1) first rest
+            noted (Some b) n z = (n.0, omega (arith, n.1))
+            noted None n z = (omega (arith, n), omega arith)
 
-            stays : {m : ℕ} → m ≡ 0 → cond (ltb good i) good (i + m) ≡ good
-            stays z = choose (λ (v : ℕ). v ≡ good) (ltb good i) (λ _. refl) (λ w. omega (arith, p.fewer, ltb-false good i w))
-
-        pub placing_fine : is_bad r ≡ false → {n : ℕ} → n ≡ one_more good i → Placing K keys ms₀ text after (label2 ∷ done) n (i + 1) (e + 1)
+        pub placing_fine : is_bad r ≡ false → {now : Option ℕ} → now ≡ bad
+            → Placing K keys ms₀ text after (label2 ∷ done) now (i + 1) (e + 1)
         placing_fine b is =
-            let f = first_of test3 (label2 ∷ done) (labels_in (listing K (drop (e + 1) text))) in
-            let z : first_of test3 done (labels_in (listing K (drop at text))) ≡ suc f = behind3
-            ∙ first_on test3 done label2 _ (sym stepped3 ∙ b) in
-            ⊎_elim
-            (λ l.
-            let m : one_more good i ≡ good = rw (lt-ltb good i l) in
-            subst (λ (n : ℕ). Placing K keys ms₀ text after (label2 ∷ done) n (i + 1) (e + 1)) (sym (is ∙ m))
-            (going_on good (omega arith) (p.noted ∙ chosen _ (lt-ltb good i l) ∙ sym (chosen _ (lt-ltb good (i + 1) (omega arith))))))
-            (λ l.
-            let m : one_more good i ≡ i + 1 = rw (le-ltb good i l) (omega (arith, p.fewer)) in
-            subst (λ (n : ℕ). Placing K keys ms₀ text after (label2 ∷ done) n (i + 1) (e + 1)) (sym (is ∙ m))
-            (going_on (i + 1) (omega arith)
-            (p.noted ∙ other good (le-ltb good i l) ∙ ap (λ (k : ℕ). i + k) z ∙ omega arith
-            ∙ sym (other (i + 1) (le-ltb (i + 1) (i + 1) (omega arith))))))
-            (lt_or_ge good i)
+            going_on is (noted bad p.noted (behind3 ∙ first_on test3 done label2 _ (sym stepped3 ∙ b)))
           where
-            chosen : {t : Bool} {v : ℕ} (w : ℕ) → t ≡ true → cond t v w ≡ v
-            chosen w h = rw h
-
-            other : {t : Bool} {w : ℕ} (v : ℕ) → t ≡ false → cond t v w ≡ w
-            other v h = rw h
+            noted : {m : ℕ} (b : Option ℕ) → Noted b i first m → m ≡ suc rest → Noted b (i + 1) first rest
+            noted (Some b) n z = (n.0, omega (arith, n.1))
+            noted None n z = omega (arith, n)

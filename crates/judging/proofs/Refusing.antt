@@ -3,6 +3,7 @@ use Prim.Native.Nat.{ℕ, ◌%◌, ◌≤◌, ◌<◌}
 use mathlib.Core.Path.{◌≡◌, refl, sym, ap, ap₂, ◌∙◌, subst}
 use mathlib.Core.Bool.{Bool, true, false}
 use Rattle.std.proofs.Common.{Option, Some, None, Result, Ok, Err}
+use Rattle.std.proofs.lemmas.Result.{IfOk-at_ok}
 use mathlib.Core.List.{List, [], ◌++◌, map}
 use native.Mathlib.Omega.{arith}
 use borrow.Author.Tests.{lt-ltb, le-ltb, eq-eqb, ne_eqb}
@@ -36,7 +37,7 @@ use Rattle.marks.specs.Ready.{keys_for, FitTable, Ready}
 use Rattle.judging.specs.Places.{is_held}
 use Rattle.judging.specs.Passing.{labels_in, Finds}
 use Rattle.judging.specs.Answers.{judge_answer, refused_fit, Judges, ends_verdict, kmers_verdict}
-use Rattle.judging.specs.Standing.{first_in, Placed, Lacking}
+use Rattle.judging.specs.Standing.{Stood, stands_in, first_in, Placed, Lacking}
 use Rattle.judging.proofs.Lacked.{lacking_is}
 
 -- ---- the first label found
@@ -69,13 +70,13 @@ module _ {K : ℕ} {keys ms text after : List ℕ} (ready : Ready K keys ms) {f 
     none_misplaced = none_found test2 labels p.found (ap first_in q)
 
     number_is : length labels ≡ all.labels
-    number_is = p.counted all q
+    number_is = IfOk-at_ok (λ (a : AllPlaced). length labels ≡ a.labels) q p.counted
 
     lack : r ≡ lacks K (keys_for ms keys) (ends ms) labels
-    lack = lacking_is ready p.ends_kept labels (p.stood all q) l
+    lack = lacking_is ready p.ends_kept labels (IfOk-at_ok (λ _. Stood (keys_for ms keys) after (stands_in K labels)) q p.stood) l
 
-    steps_are : first_of test3 [] labels ≡ all.good
-    steps_are = p.stepped all q
+    steps_are : Finds test3 labels all.bad
+    steps_are = IfOk-at_ok (λ (a : AllPlaced). Finds test3 labels a.bad) q p.stepped
 
     pub one_missing : r ≡ true → gives (no 2 all.labels) ≡ gives (kmers_verdict K (keys_for ms keys) (ends ms) labels)
     one_missing t =
@@ -88,22 +89,19 @@ module _ {K : ℕ} {keys ms text after : List ℕ} (ready : Ready K keys ms) {f 
       none_lacks : lacks K (keys_for ms keys) (ends ms) labels ≡ false
       none_lacks = sym lack ∙ t
 
-      pub third_broken : all.good < all.labels → gives (no 3 all.good) ≡ gives (kmers_verdict K (keys_for ms keys) (ends ms) labels)
-      third_broken b =
-          let h = none_misplaced in
-          let k : ltb (first_of test3 [] labels) (length labels)
-          ≡ true = lt-ltb (first_of test3 [] labels) (length labels) (omega (arith, number_is, steps_are)) in
-          rw (h.0, none_lacks, k, steps_are)
+      pub third_broken : {b : ℕ} → all.bad ≡ Some b
+          → gives (no 3 b) ≡ gives (kmers_verdict K (keys_for ms keys) (ends ms) labels)
+      third_broken e =
+          let k = some_found test3 labels steps_are e in
+          rw (none_misplaced.0, none_lacks, k.0, k.1)
 
-      pub third_kept : all.labels ≤ all.good → {a : Answer Verdict} → a ≡ gives (ends_verdict K (keys_for after keys) (ends after) labels)
+      pub third_kept : all.bad ≡ None → {a : Answer Verdict} → a ≡ gives (ends_verdict K (keys_for after keys) (ends after) labels)
           → a ≡ gives (kmers_verdict K (keys_for ms keys) (ends ms) labels)
-      third_kept b {a} s =
-          let h = none_misplaced in
-          let k : ltb (first_of test3 [] labels) (length labels)
-          ≡ false = le-ltb (first_of test3 [] labels) (length labels) (omega (arith, number_is, steps_are)) in
+      third_kept e {a} s =
+          let k = none_found test3 labels steps_are e in
           let same : a ≡ gives (ends_verdict K (keys_for ms keys) (ends ms) labels) = rw
           (← ends_length ms after p.ends_kept, ← p.ends_kept) s in
-          rw (h.0, none_lacks, k) same
+          rw (none_misplaced.0, none_lacks, k.0) same
 
 -- ---- rule 1 and the marks
 

@@ -1,5 +1,5 @@
 -- What rules 2 and 3 find of k-mers and labels, and what they leave in the marks. Assumes nothing.
-use Rattle.std.specs.Prelude.{ℕ, ◌+◌, ◌-◌, ◌≤◌, ◌<◌, ◌≡◌, Bool, true, false, cond, not, ◌&&◌, ◌||◌, Option, Some, None, Result, Ok, Err, List, [], ◌∷◌, map, ltb, eqb, length, get_or, set, drop}
+use Rattle.std.specs.Prelude.{ℕ, ◌+◌, ◌-◌, ◌≤◌, ◌<◌, ◌≡◌, Bool, true, false, cond, not, ◌&&◌, ◌||◌, Option, Some, None, Result, Ok, Err, IfOk, OnOk, List, [], ◌∷◌, map, ltb, eqb, length, get_or, set, drop}
 use Rattle.dna.specs.Letters.{code_of}
 use Rattle.kmer.specs.Kmer.{canon}
 use Rattle.state.specs.declared.Side.{Side}
@@ -90,10 +90,6 @@ pub record Stands (K : ℕ) (keys ms label : List ℕ) (r : Tested) (after : Lis
       → Stood (keys_for ms keys) after (stands_in K (label ∷ done))
   pub stepped : is_misplaced r ≡ false → (done : List (List ℕ)) → is_bad r ≡ breaks3 K (keys_for ms keys) (ends ms) done label
 
--- How many labels stand before the first with a bad step, where label i has none and so many did before.
-abbrev pub one_more : ℕ → ℕ → ℕ
-one_more good i = cond (ltb good i) good (good + 1)
-
 -- The first label with a misplaced k-mer, if there is one.
 abbrev pub first_in : Result AllPlaced ℕ → Option ℕ
 first_in (Ok p) = None
@@ -103,10 +99,9 @@ first_in (Err i) = Some i
 pub record Placed (K : ℕ) (keys ms text : List ℕ) (r : Result AllPlaced ℕ) (after : List ℕ) : Type 0 where
   pub ends_kept : ends after ≡ ends ms
   pub found : Finds (breaks2 K (keys_for ms keys) (ends ms)) (labels_in (listing K text)) (first_in r)
-  pub stood : (p : AllPlaced) → r ≡ Ok p → Stood (keys_for ms keys) after (stands_in K (labels_in (listing K text)))
-  pub counted : (p : AllPlaced) → r ≡ Ok p → length (labels_in (listing K text)) ≡ p.labels
-  pub stepped : (p : AllPlaced) → r ≡ Ok p
-      → first_of (breaks3 K (keys_for ms keys) (ends ms)) [] (labels_in (listing K text)) ≡ p.good
+  pub stood : OnOk r (Stood (keys_for ms keys) after (stands_in K (labels_in (listing K text))))
+  pub counted : IfOk r (λ p. length (labels_in (listing K text)) ≡ p.labels)
+  pub stepped : IfOk r (λ p. Finds (breaks3 K (keys_for ms keys) (ends ms)) (labels_in (listing K text)) p.bad)
 
 -- A vertex is visited or isolated.
 abbrev pub skipped : List ℕ → ℕ → Bool
@@ -142,13 +137,17 @@ pub record Joining (K : ℕ) (ks : List ℕ) (es : List Ends) (label : List ℕ)
       → bad_step K ks es (windows_of K label) ≡ (bad || (not (entered K ks es label o) || bad_step K ks es (row_from K label o)))
   pub gone : length label < o + K → bad_step K ks es (windows_of K label) ≡ bad
 
+-- Of the labels before label i a first one is found; or none is, and the rest decide.
+abbrev pub Noted : Option ℕ → ℕ → ℕ → ℕ → Type 0
+Noted (Some b) i first rest = (first ≡ b) × (b < i)
+Noted None i first rest = first ≡ i + rest
+
 -- Labels are tested up to a place of the text.
-pub record Placing (K : ℕ) (keys ms₀ text ms : List ℕ) (done : List (List ℕ)) (good i at : ℕ) : Type 0 where
+pub record Placing (K : ℕ) (keys ms₀ text ms : List ℕ) (done : List (List ℕ)) (bad : Option ℕ) (i at : ℕ) : Type 0 where
   pub ready : Ready K keys ms
   pub kept : ends ms ≡ ends ms₀
   pub passing : Passing K text (breaks2 K (keys_for ms₀ keys) (ends ms₀)) done i at
   pub stood : Stood (keys_for ms₀ keys) ms (stands_in K done)
   pub split : (x : ℕ) → stands_in K (labels_in (listing K text)) x ≡ stands_in K done x + stands_in K (labels_in (listing K (drop at text))) x
-  pub fewer : good ≤ i
-  pub noted : first_of (breaks3 K (keys_for ms₀ keys) (ends ms₀)) [] (labels_in (listing K text))
-      ≡ cond (ltb good i) good (i + first_of (breaks3 K (keys_for ms₀ keys) (ends ms₀)) done (labels_in (listing K (drop at text))))
+  pub noted : Noted bad i (first_of (breaks3 K (keys_for ms₀ keys) (ends ms₀)) [] (labels_in (listing K text)))
+      (first_of (breaks3 K (keys_for ms₀ keys) (ends ms₀)) done (labels_in (listing K (drop at text))))

@@ -44,17 +44,19 @@ fn judge_kmers(
     ensures { judge_answer (Ok result) ≡ gives (kmers_verdict k (keys_for marks.old keys.now)
         (ends marks.old) (labels_in (listing k text.now))) }
 {
-    match standing::try_labels(k, keys, directory, marks, text) {
-        Err(label) => Some(Broken { rule: 2, label }),
-        Ok(all) if standing::lacks(marks) => Some(Broken {
+    let all = match standing::try_labels(k, keys, directory, marks, text) {
+        Ok(all) => all,
+        Err(label) => return Some(Broken { rule: 2, label }),
+    };
+    if standing::lacks(marks) {
+        return Some(Broken {
             rule: 2,
             label: all.labels,
-        }),
-        Ok(all) if all.good < all.labels => Some(Broken {
-            rule: 3,
-            label: all.good,
-        }),
-        Ok(_) => judge_ends(k, keys, directory, marks, text),
+        });
+    }
+    match all.bad {
+        Some(label) => Some(Broken { rule: 3, label }),
+        None => judge_ends(k, keys, directory, marks, text),
     }
 }
 

@@ -62,11 +62,11 @@ enum Tested {
     Fine,
 }
 
-// How many labels there are, whose k-mers all stand where they may, and how many before the first with a bad step.
+// How many labels there are, whose k-mers all stand where they may, and the first of them with a bad step, if one has any.
 #[derive(Clone, Copy, PartialEq, Eq, Debug)]
 struct AllPlaced {
     labels: usize,
-    good: usize,
+    bad: Option<usize>,
 }
 
 // A k-mer as it stands, its reverse complement, and its vertex's mark; that of no edge where it is not stored.

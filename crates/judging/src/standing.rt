@@ -5,7 +5,7 @@ ghost use Rattle.kmer.proofs.Windows.{Bases};
 ghost use Rattle.rules.specs.Listing.{Label, listing};
 ghost use Rattle.marks.specs.Ready.{Ready, Unvisited};
 ghost use Rattle.judging.specs.Places.{is_held};
-ghost use Rattle.judging.specs.Standing.{one_more, TestsKmer, TestsWindow, Stands, Placed, Lacking};
+ghost use Rattle.judging.specs.Standing.{TestsKmer, TestsWindow, Stands, Placed, Lacking};
 
 use super::{AllPlaced, Tested, joining, places};
 use kmer::Kmer;
@@ -78,15 +78,7 @@ fn test_label(k: usize, keys: &[u64], directory: &[u32], marks: &mut [u8], label
     found
 }
 
-// How many labels stand before the first with a bad step, where label i has none and so many did before: one more where all were good.
-fn one_more(good: usize, i: usize) -> usize
-    requires { (good ≤ i) × (i < 2 ^ 63) }
-    ensures { result ≡ one_more good i }
-{
-    if good < i { good } else { good + 1 }
-}
-
-// The labels in order, up to one with a misplaced k-mer, whose number is the Err; where there is none, the k-mers of all are marked.
+// The labels in order, up to one with a misplaced k-mer, which is the Err; where there is none, the k-mers of all are marked.
 pub(crate) fn try_labels(
     k: usize,
     keys: &[u64],
@@ -97,20 +89,20 @@ pub(crate) fn try_labels(
     requires { Ready k keys.now marks.old × Unvisited marks.old × (is_held (listing k text.now) ≡ true) }
     ensures { Placed k keys.now marks.old text.now result marks.new }
 {
-    let mut good = 0;
+    let mut bad = None;
     let mut i = 0;
     let mut at = 0;
     while at < text.len() {
         let label = places::label_at(text, at);
         match test_label(k, keys, directory, marks, &text[label.start..label.end]) {
             Tested::Misplaced => return Err(i),
-            Tested::BadStep => {}
-            Tested::Fine => good = one_more(good, i),
+            Tested::BadStep => bad = bad.or(Some(i)),
+            Tested::Fine => {}
         }
         i += 1;
         at = label.end + 1;
     }
-    Ok(AllPlaced { labels: i, good })
+    Ok(AllPlaced { labels: i, bad })
 }
 
 // A vertex with an edge is not marked.

@@ -2,15 +2,14 @@
 use Rattle.judging.proofs.Refusing.{one_missing, third_broken, third_kept}
 use Rattle.judging.proofs.judgement.judge_kmers.Goals as goal
 
-pub returns-in-Ok : goal.returns-in-Ok
-returns-in-Ok c =
-    one_missing c.requires.0 c.try_labels.ensures c.in-Ok.is c.lacks.ensures c.if-lacks.true
+pub returns-then-lacks : goal.returns-then-lacks
+returns-then-lacks c = one_missing c.requires.0 c.try_labels.ensures c.in-Ok.is c.lacks.ensures c.if-lacks.true
 
-pub returns-in-Ok-2 : goal.returns-in-Ok-2
-returns-in-Ok-2 c =
-    third_broken c.requires.0 c.try_labels.ensures c.in-Ok.is c.lacks.ensures c.if-lacks.false c.if-all.true
+pub returns-in-Some : goal.returns-in-Some
+returns-in-Some c =
+    third_broken c.requires.0 c.try_labels.ensures c.in-Ok.is c.lacks.ensures c.if-lacks.false c.in-Some.is
 
-pub returns-in-Ok-3 : goal.returns-in-Ok-3
-returns-in-Ok-3 c =
-    third_kept c.requires.0 c.try_labels.ensures c.in-Ok.is c.lacks.ensures c.if-lacks.false c.if-all.false
+pub returns-in-None : goal.returns-in-None
+returns-in-None c =
+    third_kept c.requires.0 c.try_labels.ensures c.in-Ok.is c.lacks.ensures c.if-lacks.false c.in-None.is
     c.judge_ends.ensures

@@ -43,13 +43,13 @@ loop-at-preserved c =
           let told = w.in-BadStep.is in (
             _,
             placing_bad p c.loop-at-test.true c.label_at-label.ensures c.test_label.ensures
-                (ap is_misplaced told) (ap is_bad told) w.good-is,
+                (ap is_misplaced told) (ap is_bad told) (w.bad-is ∙ w.or-bad.ensures),
           )
       | in-Fine w ↦
           let told = w.in-Fine.is in (
             _,
             placing_fine p c.loop-at-test.true c.label_at-label.ensures c.test_label.ensures
-                (ap is_misplaced told) (ap is_bad told) (w.good-is ∙ w.one_more-good.ensures),
+                (ap is_misplaced told) (ap is_bad told) w.bad-is,
           )
     ]
 
