@@ -1,5 +1,5 @@
--- The definition of what a judgement answers tells its cases apart, so its contract allows one answer and one content of the marks.
--- Assumes nothing.
+-- The definition of what a judgement answers tells its cases apart, so its contract allows one answer and one content
+-- of the marks. Assumes nothing.
 use mathlib.Core.Path.{◌≡◌, refl, sym, ap, ◌∙◌}
 use mathlib.Core.List.{List, [], ◌∷◌}
 use Prim.Native.Nat.{ℕ}
@@ -38,7 +38,8 @@ case_back (Err errors.FewMarks) = refl
 case_back (Err errors.EvenK) = refl
 case_back (Err errors.NoList) = refl
 
-pub judges_one : {r s : Result (Option Broken) JudgeError} {marks marks' : List ℕ} {j : Judgement} → Judges r marks j → Judges s marks' j
+pub judges_one : {r s : Result (Option Broken) JudgeError} {marks marks' : List ℕ} {j : Judgement} → Judges r marks j
+    → Judges s marks' j
     → (r ≡ s) × (marks ≡ marks')
 judges_one {r} {s} p q =
     (sym (case_back r) ∙ ap case_of (p.answer ∙ sym q.answer) ∙ case_back s, p.marks_after ∙ sym q.marks_after)

@@ -28,24 +28,28 @@ use Rattle.rules.proofs.Telling.{any_found, found_any}
 use Rattle.marks.specs.Ready.{keys_for, Ready}
 use Rattle.judging.specs.declared.Tested.{Tested}
 use Rattle.judging.specs.declared.Tested.TheVariants as tested
-use Rattle.judging.specs.Standing.{is_misplaced, is_bad, joined_at, Marked, TestsWindow, Stood, stands_in, Stands, row_to, Sofar, Testing}
+use Rattle.judging.specs.Standing.{is_misplaced, is_bad, joined_at, Marked, TestsWindow, Stood, stands_in, Stands}
+use Rattle.judging.specs.Standing.{row_to, Sofar, Testing}
 
 -- ---- the k-mers of a label, one after the other
 
 module _ (K : ℕ) (label : List ℕ) where
-  row_next : (x o : ℕ) → tally x (row_to K label (suc o)) ≡ tally x (row_to K label o) + cond (eqb (canon K (window K label o)) x) 1 0
+  row_next : (x o : ℕ) → tally x (row_to K label (suc o)) ≡ tally x (row_to K label o) + cond
+      (eqb (canon K (window K label o)) x) 1 0
   unfolding tally
   row_next x o =
       ap (λ (ws : List ℕ). tally x (map (canon K) ws)) (windows_snoc K o label)
       ∙ ap (tally x) (map-append (canon K) (windows_from K o label) (window K label o ∷ []))
       ∙ tally_append x (row_to K label o) (canon K (window K label o) ∷ []) ∙ omega arith
 
-  row_one : (o : ℕ) → let c = canon K (window K label o) in tally c (row_to K label (suc o)) ≡ suc (tally c (row_to K label o))
+  row_one : (o : ℕ) → let c = canon K (window K label o) in tally c (row_to K label (suc o)) ≡ suc
+      (tally c (row_to K label o))
   row_one o =
       let c = canon K (window K label o) in
       row_next c o ∙ rw (eq-eqb c c refl) (omega arith)
 
-  row_other : (o x : ℕ) → eqb (canon K (window K label o)) x ≡ false → tally x (row_to K label (suc o)) ≡ tally x (row_to K label o)
+  row_other : (o x : ℕ) → eqb (canon K (window K label o)) x ≡ false
+      → tally x (row_to K label (suc o)) ≡ tally x (row_to K label o)
   row_other o x e = row_next x o ∙ rw e (omega arith)
 
   row_le : (x o d : ℕ) → tally x (row_to K label o) ≤ tally x (row_to K label (o + d))
@@ -89,7 +93,8 @@ module _ (K : ℕ) (ks : List ℕ) (es : List Ends) (label : List ℕ) (done : L
           let bad : wrong c ≡ true = ⊎_elim
           (λ q. rw (or_hold q))
           (λ q.
-          let n = ltb-true 0 (tally c (row_to K label o) + occurrences K c done) (sym (f.stood c (live_stored c (live q))) ∙ seen q) in
+          let n = ltb-true 0 (tally c (row_to K label o) + occurrences K c done)
+          (sym (f.stood c (live_stored c (live q))) ∙ seen q) in
           or_on (not (is_live K ks es c)) (lt-ltb 1 (occurs K c label + occurrences K c done) (omega arith)))
           (true_or_false (not (is_live K ks es c))) in
           t ∙ sym (found_any wrong (kmers_of K ks es label) c (omega arith) bad)
@@ -104,9 +109,11 @@ module _ (K : ℕ) (ks : List ℕ) (es : List Ends) (label : List ℕ) (done : L
           seen q = ⊎_elim (λ z. never (not (is_live K ks es c)) z q) (λ z. z)
               (or_cases (not (is_live K ks es c)) (visited (visits ms) (rank ks c)) (sym told ∙ t))
 
-      module _ (t : r ≡ false) (room : rank ks c < length ms) (after : List ℕ) (marked : visits after ≡ set (visits ms) (rank ks c) 1) where
+      module _ (t : r ≡ false) (room : rank ks c < length ms) (after : List ℕ)
+          (marked : visits after ≡ set (visits ms) (rank ks c) 1) where
         now_live : is_live K ks es c ≡ true
-        now_live = not-false (is_live K ks es c) (or_first (not (is_live K ks es c)) (visited (visits ms) (rank ks c)) (sym told ∙ t))
+        now_live = not-false (is_live K ks es c)
+            (or_first (not (is_live K ks es c)) (visited (visits ms) (rank ks c)) (sym told ∙ t))
 
         now_new : tally c (row_to K label o) + occurrences K c done ≤ 0
         now_new =
@@ -117,16 +124,21 @@ module _ (K : ℕ) (ks : List ℕ) (es : List Ends) (label : List ℕ) (done : L
         stood_next : Stood ks after (λ x. tally x (row_to K label (suc o)) + occurrences K x done)
         stood_next x s = ⊎_elim same other (true_or_false (eqb c x))
           where
-            same : eqb c x ≡ true → visited (visits after) (rank ks x) ≡ ltb 0 (tally x (row_to K label (suc o)) + occurrences K x done)
+            same : eqb c x ≡ true → visited (visits after) (rank ks x) ≡ ltb 0
+                (tally x (row_to K label (suc o)) + occurrences K x done)
             same q =
                 let e : c ≡ x = eqb-true c x q in
-                subst (λ (y : ℕ). visited (visits after) (rank ks y) ≡ ltb 0 (tally y (row_to K label (suc o)) + occurrences K y done)) e
+                subst (λ (y : ℕ). visited (visits after) (rank ks y)
+                ≡ ltb 0 (tally y (row_to K label (suc o)) + occurrences K y done)) e
                 (ap (λ (vs : List ℕ). visited vs (rank ks c)) marked ∙ visited_now ms (rank ks c) room
-                ∙ sym (lt-ltb 0 (tally c (row_to K label (suc o)) + occurrences K c done) (omega (arith, row_one K label o))))
+                ∙ sym (lt-ltb 0 (tally c (row_to K label (suc o)) + occurrences K c done)
+                (omega (arith, row_one K label o))))
 
-            other : eqb c x ≡ false → visited (visits after) (rank ks x) ≡ ltb 0 (tally x (row_to K label (suc o)) + occurrences K x done)
+            other : eqb c x ≡ false → visited (visits after) (rank ks x) ≡ ltb 0
+                (tally x (row_to K label (suc o)) + occurrences K x done)
             other q =
-                let n : rank ks x ≡ rank ks c → ⊥ = λ z. eqb-false c x q (same_rank ks c x (live_stored c now_live) s (sym z)) in
+                let n : rank ks x ≡ rank ks c → ⊥ = λ z. eqb-false c x q
+                (same_rank ks c x (live_stored c now_live) s (sym z)) in
                 ap (λ (vs : List ℕ). visited vs (rank ks x)) marked
                 ∙ ap (λ (v : ℕ). eqb v 1) (get_or-set_other (visits ms) (rank ks c) (rank ks x) 1 0 n)
                 ∙ f.stood x s ∙ ap (λ (m : ℕ). ltb 0 (m + occurrences K x done)) (sym (row_other K label o x q))
@@ -134,9 +146,11 @@ module _ (K : ℕ) (ks : List ℕ) (es : List Ends) (label : List ℕ) (done : L
         sofar_next : Sofar K ks es after label (suc o) done
         sofar_next = record { stood = stood_next; fine = λ x h. ⊎_elim (same x) (other x h) (true_or_false (eqb c x)) }
           where
-            same : (x : ℕ) → eqb c x ≡ true → (is_live K ks es x ≡ true) × (tally x (row_to K label (suc o)) + occurrences K x done ≤ 1)
+            same : (x : ℕ) → eqb c x ≡ true → (is_live K ks es x ≡ true)
+                × (tally x (row_to K label (suc o)) + occurrences K x done ≤ 1)
             same x q =
-                subst (λ (y : ℕ). (is_live K ks es y ≡ true) × (tally y (row_to K label (suc o)) + occurrences K y done ≤ 1)) (eqb-true c x q)
+                subst (λ (y : ℕ). (is_live K ks es y ≡ true)
+                × (tally y (row_to K label (suc o)) + occurrences K y done ≤ 1)) (eqb-true c x q)
                 (now_live, omega (arith, row_one K label o, now_new))
 
             other : (x : ℕ) → 1 ≤ tally x (row_to K label (suc o)) → eqb c x ≡ false
@@ -166,7 +180,13 @@ module _ (K : ℕ) (ks : List ℕ) (es : List Ends) (label : List ℕ) (done : L
 
 pub testing_start : {K : ℕ} {keys ms : List ℕ} (label : List ℕ) → Ready K keys ms → Testing K keys ms label ms 0
 testing_start {K} {keys} {ms} label r =
-    record { ready = r; kept = refl; inside = omega arith; sofar = λ done s. sofar_start K (keys_for ms keys) (ends ms) label done s }
+    record {
+      ready = r;
+      kept = refl;
+      inside = omega arith;
+      sofar = λ done s. sofar_start K (keys_for ms keys)
+          (ends ms) label done s;
+    }
 
 module _ {K : ℕ} {keys ms₀ label ms : List ℕ} {o : ℕ} (t : Testing K keys ms₀ label ms o) where
   module _ (h : o < windows K label) {x : ℕ} (is : x ≡ canon K (window K label o)) {r : Bool} {after : List ℕ}
@@ -177,7 +197,8 @@ module _ {K : ℕ} {keys ms₀ label ms : List ℕ} {o : ℕ} (t : Testing K key
     long : length ms ≡ length ms₀
     long = ends_length ms₀ ms t.kept
 
-    told_is : r ≡ (not (is_live K (keys_for ms₀ keys) (ends ms₀) here) || visited (visits ms) (rank (keys_for ms₀ keys) here))
+    told_is : r ≡ (not (is_live K (keys_for ms₀ keys) (ends ms₀) here) || visited (visits ms)
+        (rank (keys_for ms₀ keys) here))
     told_is = rw (← is, ← long, ← t.kept) m.told
 
     pub testing_found : r ≡ true → Stands K keys ms₀ label tested.Misplaced after
@@ -205,7 +226,8 @@ module _ {K : ℕ} {keys ms₀ label ms : List ℕ} {o : ℕ} (t : Testing K key
         let ks = keys_for ms₀ keys in
         let n : suc o ≡ o + 1 = omega arith in
         let live : is_live K ks (ends ms₀) here ≡ true =
-        not-false (is_live K ks (ends ms₀) here) (or_first (not (is_live K ks (ends ms₀) here)) (visited (visits ms) (rank ks here))
+        not-false (is_live K ks (ends ms₀) here)
+        (or_first (not (is_live K ks (ends ms₀) here)) (visited (visits ms) (rank ks here))
         (sym told_is ∙ q)) in
         let marked : visits after ≡ set (visits ms) (rank ks here) 1 = rw (← is, ← long) (m.marked q) in
         record {
@@ -218,12 +240,14 @@ module _ {K : ℕ} {keys ms₀ label ms : List ℕ} {o : ℕ} (t : Testing K key
         }
 
   -- Its edges are told as they were before any label.
-  pub testing_joined : {found : Tested} {after : List ℕ} → TestsWindow K keys ms label o found after → is_misplaced found ≡ false
+  pub testing_joined : {found : Tested} {after : List ℕ} → TestsWindow K keys ms label o found after
+      → is_misplaced found ≡ false
       → is_bad found ≡ not (joined_at K (keys_for ms₀ keys) (ends ms₀) label o)
   testing_joined w q = rw (← ends_length ms₀ ms t.kept, ← t.kept) (w.joined q)
 
   pub testing_end : windows K label ≤ o → (found : Tested) → is_misplaced found ≡ false
-      → ((done : List (List ℕ)) → is_bad found ≡ breaks3 K (keys_for ms₀ keys) (ends ms₀) done label) → Stands K keys ms₀ label found ms
+      → ((done : List (List ℕ)) → is_bad found ≡ breaks3 K (keys_for ms₀ keys) (ends ms₀) done label)
+      → Stands K keys ms₀ label found ms
   testing_end h found fine steps =
       let ks = keys_for ms₀ keys in
       let e : o ≡ windows K label = omega (arith, t.inside) in

@@ -1,5 +1,5 @@
--- A window's edges and its neighbours in the label: a row of windows has a bad step where the edges of one do not lead to them.
--- Assumes nothing.
+-- A window's edges and its neighbours in the label: a row of windows has a bad step where the edges of one do not lead
+-- to them. Assumes nothing.
 use Prim.Native.Nat.{ℕ, suc, ◌+◌, ◌-◌, ◌^◌, ◌≤◌, ◌<◌}
 use mathlib.Core.Path.{◌≡◌, refl, sym, ap, ap₂, ◌∙◌}
 use mathlib.Core.Logic.{⊎_elim}
@@ -44,15 +44,18 @@ leaving_back : (s : Side) (e : ℕ) → leaving s e < 4 → e < 4
 leaving_back Front e h = complement_back e h
 leaving_back Back e h = h
 
-code_is : (label : List ℕ) (i : ℕ) → i < length label → Bases label → valid_bits (get_or label i 0) ≡ code_of (get_or label i 0)
+code_is : (label : List ℕ) (i : ℕ) → i < length label → Bases label
+    → valid_bits (get_or label i 0) ≡ code_of (get_or label i 0)
 code_is label i h b = valid_code (get_or label i 0) (lt-ltb (code_of (get_or label i 0)) 4 (bases_at label i h b))
 
 module _ (label : List ℕ) (bases : Bases label) (o b : ℕ) where
-  pub followed_on : (K : ℕ) → o + K < length label → {v : ℕ} → v ≡ valid_bits (get_or label (o + K) 0) → {t : Bool} → t ≡ eqb b v → t
+  pub followed_on : (K : ℕ) → o + K < length label → {v : ℕ} → v ≡ valid_bits (get_or label (o + K) 0) → {t : Bool}
+      → t ≡ eqb b v → t
       ≡ followed K label o b
   followed_on K h e q = q ∙ ap (eqb b) (e ∙ code_is label (o + K) h bases) ∙ sym (rw (lt-ltb (o + K) (length label) h))
 
-  pub preceded_on : (o ≡ 0 → ⊥) → o ≤ length label → {v : ℕ} → v ≡ valid_bits (get_or label (o - 1) 0) → {t : Bool} → t ≡ eqb b (3 - v)
+  pub preceded_on : (o ≡ 0 → ⊥) → o ≤ length label → {v : ℕ} → v ≡ valid_bits (get_or label (o - 1) 0) → {t : Bool}
+      → t ≡ eqb b (3 - v)
       → t ≡ preceded label o b
   preceded_on h l e q =
       q ∙ ap (λ (v : ℕ). eqb b (3 - v)) (e ∙ code_is label (o - 1) (omega arith) bases) ∙ sym (rw (ne_eqb o 0 h))
@@ -61,13 +64,15 @@ module _ (label : List ℕ) (bases : Bases label) (o b : ℕ) where
 
 module _ (K : ℕ) (ks : List ℕ) (es : List Ends) (one : 1 ≤ K) where
   -- An edge leads where its base does.
-  leads_code : (x : ℕ) (s : Side) (b : ℕ) → b < 4 → leads_to K ks es x s (forward K x b) ≡ eqb (leaving s (retained K ks es x s)) b
+  leads_code : (x : ℕ) (s : Side) (b : ℕ) → b < 4
+      → leads_to K ks es x s (forward K x b) ≡ eqb (leaving s (retained K ks es x s)) b
   unfolding leads_to
   leads_code x s b h = ⊎_elim
       (λ l.
       let c = leaving_lt s (retained K ks es x s) l in
       rw (lt-ltb (retained K ks es x s) 4 l)
-      (same_bool (eqb (forward K x (leaving s (retained K ks es x s))) (forward K x b)) (eqb (leaving s (retained K ks es x s)) b)
+      (same_bool (eqb (forward K x (leaving s (retained K ks es x s))) (forward K x b))
+      (eqb (leaving s (retained K ks es x s)) b)
       (λ q. eq-eqb _ _ (forward_inj K x (leaving s (retained K ks es x s)) b one c h (eqb-true _ _ q)))
       (λ q. eq-eqb _ _ (ap (forward K x) (eqb-true _ _ q)))))
       (λ l.
@@ -135,21 +140,25 @@ module _ (K : ℕ) (ks : List ℕ) (es : List Ends) (label : List ℕ) where
     gone = λ l. absurd (omega arith);
   }
 
-  module _ (one : 1 ≤ K) (bases : Bases label) (o : ℕ) (inside : o + K ≤ length label) {bad : Bool} (j : Joining K ks es label o bad) where
+  module _ (one : 1 ≤ K) (bases : Bases label) (o : ℕ) (inside : o + K ≤ length label) {bad : Bool}
+      (j : Joining K ks es label o bad) where
     pub joining_next : {b : Bool} → b ≡ not (joined_at K ks es label o) → {worse : Bool} → worse ≡ (bad || b)
         → Joining K ks es label (o + 1) worse
     joining_next {b} e {worse} w = record {
       going = λ l.
           let n : o + 1 ≡ suc o = omega arith in
           let h : o + K < length label = omega arith in
-          let s : worse ≡ (bad || not (left K ks es label o && entered K ks es label o)) = w ∙ ap (λ (z : Bool). bad || z) e in
+          let s : worse ≡ (bad || not (left K ks es label o && entered K ks es label o)) =
+          w ∙ ap (λ (z : Bool). bad || z) e in
           j.going inside
           ∙ ap (λ (z : Bool). bad || (not (entered K ks es label o) || z))
           (row_bad K ks es label o (omega arith)
-          ∙ ap (λ (z : Bool). not z || bad_step K ks es (row_from K label (suc o))) (step_is K ks es one label bases o h))
+          ∙ ap (λ (z : Bool). not z || bad_step K ks es (row_from K label (suc o)))
+          (step_is K ks es one label bases o h))
           ∙ shift bad (entered K ks es label o) (left K ks es label o) (entered K ks es label (suc o))
           (bad_step K ks es (row_from K label (suc o)))
-          ∙ ap₂ (λ (z : Bool) (i : ℕ). z || (not (entered K ks es label i) || bad_step K ks es (row_from K label i))) (sym s) (sym n);
+          ∙ ap₂ (λ (z : Bool) (i : ℕ). z || (not (entered K ks es label i) || bad_step K ks es (row_from K label i)))
+          (sym s) (sym n);
       gone = λ l.
           let f : left K ks es label o ≡ true = rw (le-ltb (o + K) (length label) (omega arith)) in
           j.going inside
@@ -159,7 +168,8 @@ module _ (K : ℕ) (ks : List ℕ) (es : List Ends) (label : List ℕ) where
           ∙ sym (w ∙ ap (λ (z : Bool). bad || z) e);
     }
 
-  pub joining_end : {o : ℕ} {bad : Bool} → Joining K ks es label o bad → length label < o + K → (done : List (List ℕ)) → bad
+  pub joining_end : {o : ℕ} {bad : Bool} → Joining K ks es label o bad → length label < o + K → (done : List (List ℕ))
+      → bad
       ≡ breaks3 K ks es done label
   unfolding breaks3
   joining_end j h done = sym (j.gone h)

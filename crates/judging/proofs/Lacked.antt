@@ -44,9 +44,11 @@ module _ {K : ℕ} {keys ms₀ ms : List ℕ} (ready : Ready K keys ms₀) (kept
       let x = get_or ks v 0 in
       let st = at_stored K ks ready.fits v h in
       let rk = rank_at K 0 ks ready.fits v h in
-      let iso : isolated (ends ms₀) v ≡ false = rw (← kept) (or_second (visited (visits ms) v) (isolated (ends ms) v) o.2) in
+      let iso : isolated (ends ms₀) v ≡ false =
+      rw (← kept) (or_second (visited (visits ms) v) (isolated (ends ms) v) o.2) in
       let vis : visited (visits ms) v ≡ false = or_first (visited (visits ms) v) (isolated (ends ms) v) o.2 in
-      let z : occurrences K x ls ≤ 0 = ltb-false 0 (occurrences K x ls) (sym (s x st) ∙ ap (visited (visits ms)) rk ∙ vis) in
+      let z : occurrences K x ls ≤ 0 = ltb-false 0 (occurrences K x ls)
+      (sym (s x st) ∙ ap (visited (visits ms)) rk ∙ vis) in
       let e : eqb (occurrences K x ls) 0 ≡ true = eq-eqb (occurrences K x ls) 0 (omega arith) in
       found_any test ks x (key_stands ks v h) (rw (st, rk, iso, e))
 

@@ -13,7 +13,8 @@ use Rattle.lemmas.proofs.Numbers.{lt_or_ge}
 use Rattle.lemmas.proofs.Tests.{choose, never, or_first, or_second}
 use Rattle.std.specs.List.{list_all}
 use Rattle.dna.specs.Text.{bytes, among, part}
-use Rattle.rules.specs.Listing.{Listing, holds, no_list, Lists, Label, put, lines_of, is_plain, and_then, ended, labels_among, listing}
+use Rattle.rules.specs.Listing.{Listing, holds, no_list, Lists, Label, put, lines_of, is_plain, and_then, ended}
+use Rattle.rules.specs.Listing.{labels_among, listing}
 use Rattle.rules.specs.Listing.Lists.{none, one}
 use Rattle.rules.proofs.Listing.{lines_line, plain_line}
 use Rattle.judging.specs.Places.{LineEnds, is_held, Recorded, Spans}
@@ -37,13 +38,15 @@ pub line_start : (text : List ℕ) (at : ℕ) → among 10 (part text at (at - a
 unfolding among
 line_start text at = let e : at - at ≡ 0 = omega arith in rw e
 
-pub line_more : (text : List ℕ) (at i : ℕ) → at ≤ i → i < length text → among 10 (part text at (i - at)) ≡ false → (get_or text i 0 ≡ 10 → ⊥)
+pub line_more : (text : List ℕ) (at i : ℕ) → at ≤ i → i < length text → among 10 (part text at (i - at)) ≡ false
+    → (get_or text i 0 ≡ 10 → ⊥)
     → among 10 (part text at (i + 1 - at)) ≡ false
 line_more text at i h l q n =
     let e : i + 1 - at ≡ suc (i - at) = omega arith in
     let m : at + (i - at) ≡ i = omega arith in
     let d : i - at < length (drop at text) = omega (arith, length-drop at text) in
-    let g : get_or (drop at text) (i - at) 0 ≡ get_or text i 0 = get_or-drop at text (i - at) 0 ∙ ap (λ (k : ℕ). get_or text k 0) m in
+    let g : get_or (drop at text) (i - at) 0 ≡ get_or text i 0 =
+    get_or-drop at text (i - at) 0 ∙ ap (λ (k : ℕ). get_or text k 0) m in
     let t : eqb 10 (get_or text i 0) ≡ false = ne_eqb 10 (get_or text i 0) (λ z. n (sym z)) in
     rw (e, take-suc (drop at text) (i - at) 0 d, g, among_snoc 10 (part text at (i - at)) (get_or text i 0), q, t)
 
@@ -54,14 +57,17 @@ line_cut text at r g h =
     let m : at + (r - at) ≡ r = omega (arith, g.behind) in
     sym (take-append-drop (r - at) (drop at text))
     ∙ ap (λ (t : List ℕ). part text at (r - at) ++ t)
-    (drop-drop (r - at) at text ∙ ap (λ (k : ℕ). drop k text) m ∙ drop-cons text r 0 h ∙ ap (λ (b : ℕ). b ∷ drop (suc r) text) (g.stop h))
+    (drop-drop (r - at) at text ∙ ap (λ (k : ℕ). drop k text) m ∙ drop-cons text r 0 h
+    ∙ ap (λ (b : ℕ). b ∷ drop (suc r) text) (g.stop h))
 
-pub line_whole : (text : List ℕ) (at r : ℕ) → LineEnds text at r → length text ≤ r → drop at text ≡ part text at (r - at)
+pub line_whole : (text : List ℕ) (at r : ℕ) → LineEnds text at r → length text ≤ r
+    → drop at text ≡ part text at (r - at)
 line_whole text at r g h = sym (take_all (r - at) (drop at text) (omega (arith, length-drop at text)))
 
 lines_cut : (text : List ℕ) (at r : ℕ) → LineEnds text at r → r < length text → lines_of (drop at text)
     ≡ part text at (r - at) ∷ lines_of (drop (suc r) text)
-lines_cut text at r g h = ap lines_of (line_cut text at r g h) ∙ lines_line (part text at (r - at)) (drop (suc r) text) g.line
+lines_cut text at r g h = ap lines_of (line_cut text at r g h)
+    ∙ lines_line (part text at (r - at)) (drop (suc r) text) g.line
 
 -- A text without a newline is one line.
 lines_none : (s : List ℕ) → among 10 s ≡ false → lines_of s ≡ s ∷ []
@@ -86,7 +92,8 @@ begins text at r g h = go (r - at) refl
     go (suc m) e =
         let q : at + 0 ≡ at = omega arith in
         ap (λ (b : ℕ). eqb b 62)
-        (get_or-take (suc m) (drop at text) 0 0 (omega arith) ∙ get_or-drop at text 0 0 ∙ ap (λ (k : ℕ). get_or text k 0) q)
+        (get_or-take (suc m) (drop at text) 0 0 (omega arith) ∙ get_or-drop at text 0 0
+        ∙ ap (λ (k : ℕ). get_or text k 0) q)
 
 module _ (K : ℕ) (text : List ℕ) where
   held_then : (l : List ℕ) (r : Listing) → is_held (and_then l r) ≡ is_held r
@@ -100,7 +107,8 @@ module _ (K : ℕ) (text : List ℕ) where
       ap (λ (t : List ℕ). is_held (listing K t)) (ap (λ (k : ℕ). drop k text) e ∙ drop-length text)
 
   -- The first line has no newline.
-  pub held_no_line : (at r : ℕ) → at < length text → LineEnds text at r → r ≡ length text → is_held (listing K (drop at text)) ≡ false
+  pub held_no_line : (at r : ℕ) → at < length text → LineEnds text at r → r ≡ length text
+      → is_held (listing K (drop at text)) ≡ false
   unfolding labels_among
   held_no_line at r l g e =
       let w = line_whole text at r g (omega arith) in
@@ -122,9 +130,11 @@ module _ (K : ℕ) (text : List ℕ) where
     held_no_second q =
         let w = line_whole text (r + 1) e k (omega arith) in
         ap (λ (ls : List (List ℕ)). is_held (labels_among K ls))
-        (lines_first ∙ ap (λ (ls : List (List ℕ)). part text at (r - at) ∷ ls) (lines_none (drop (r + 1) text) (ap (among 10) w ∙ k.line)))
+        (lines_first ∙ ap (λ (ls : List (List ℕ)). part text at (r - at) ∷ ls)
+        (lines_none (drop (r + 1) text) (ap (among 10) w ∙ k.line)))
         ∙ choose (λ (z : Listing). is_held z ≡ false)
-        (eqb (get_or (part text at (r - at)) 0 0) 62 && leb K (length (drop (r + 1) text)) && is_plain (drop (r + 1) text))
+        (eqb (get_or (part text at (r - at)) 0 0) 62 && leb K (length (drop (r + 1) text)) && is_plain
+        (drop (r + 1) text))
         (λ _. refl) (λ _. refl)
 
     module _ (f : e < length text) where
@@ -137,27 +147,32 @@ module _ (K : ℕ) (text : List ℕ) where
       abbrev test : Bool
       test = eqb (get_or (part text at (r - at)) 0 0) 62 && leb K (length label) && is_plain label
 
-      held_two : is_held (listing K (drop at text)) ≡ is_held (cond test (and_then label (listing K (drop (e + 1) text))) no_list)
+      held_two : is_held (listing K (drop at text)) ≡ is_held
+          (cond test (and_then label (listing K (drop (e + 1) text))) no_list)
       unfolding labels_among
       held_two = ap (λ (ls : List (List ℕ)). is_held (labels_among K ls)) two_lines
 
       pub held_no_header : (get_or text at 0 ≡ 62 → ⊥) → is_held (listing K (drop at text)) ≡ false
       held_no_header n =
-          let q : eqb (get_or (part text at (r - at)) 0 0) 62 ≡ false = begins text at r g h ∙ ne_eqb (get_or text at 0) 62 n in
+          let q : eqb (get_or (part text at (r - at)) 0 0) 62 ≡ false =
+          begins text at r g h ∙ ne_eqb (get_or text at 0) 62 n in
           held_two ∙ rw q
 
       module _ (y : get_or text at 0 ≡ 62) {t : Bool} (c : t ≡ (leb K (length label) && is_plain label)) where
         test_is : test ≡ t
         test_is =
-            let q : eqb (get_or (part text at (r - at)) 0 0) 62 ≡ true = begins text at r g h ∙ eq-eqb (get_or text at 0) 62 y in
+            let q : eqb (get_or (part text at (r - at)) 0 0) 62 ≡ true =
+            begins text at r g h ∙ eq-eqb (get_or text at 0) 62 y in
             rw q (sym c)
 
         pub held_no_label : t ≡ false → is_held (listing K (drop at text)) ≡ false
-        held_no_label n = held_two ∙ ap (λ (b : Bool). is_held (cond b (and_then label (listing K (drop (e + 1) text))) no_list)) (test_is ∙ n)
+        held_no_label n = held_two ∙ ap (λ (b : Bool). is_held
+            (cond b (and_then label (listing K (drop (e + 1) text))) no_list)) (test_is ∙ n)
 
         pub held_on : t ≡ true → is_held (listing K (drop at text)) ≡ is_held (listing K (drop (e + 1) text))
         held_on n =
-            held_two ∙ ap (λ (b : Bool). is_held (cond b (and_then label (listing K (drop (e + 1) text))) no_list)) (test_is ∙ n)
+            held_two ∙ ap (λ (b : Bool). is_held (cond b (and_then label (listing K (drop (e + 1) text))) no_list))
+            (test_is ∙ n)
             ∙ held_then label (listing K (drop (e + 1) text))
 
 -- ---- letters
@@ -170,7 +185,8 @@ plain_all (b ∷ s) = ap (λ (t : Bool). among b (bytes "ACGT") && t) (plain_all
 -- ---- the record at a place
 
 -- Texts whose first lines are known are known line by line.
-same_cut : (s t p q : List ℕ) → among 10 s ≡ false → among 10 p ≡ false → s ++ (10 ∷ t) ≡ p ++ (10 ∷ q) → (s ≡ p) × (t ≡ q)
+same_cut : (s t p q : List ℕ) → among 10 s ≡ false → among 10 p ≡ false → s ++ (10 ∷ t) ≡ p ++ (10 ∷ q) → (s ≡ p)
+    × (t ≡ q)
 unfolding among
 same_cut [] t [] q h k e = (refl, ap (drop 1) e)
 same_cut [] t (b ∷ p) q h k e =
@@ -181,7 +197,8 @@ same_cut (a ∷ s) t [] q h k e =
     never (eqb 10 a) (eq-eqb 10 a (sym z)) (or_first (eqb 10 a) (among 10 s) h)
 same_cut (a ∷ s) t (b ∷ p) q h k e =
     let z : a ≡ b = ap (λ (l : List ℕ). get_or l 0 0) e in
-    let r = same_cut s t p q (or_second (eqb 10 a) (among 10 s) h) (or_second (eqb 10 b) (among 10 p) k) (ap (drop 1) e) in
+    let r = same_cut s t p q (or_second (eqb 10 a) (among 10 s) h) (or_second (eqb 10 b) (among 10 p) k)
+    (ap (drop 1) e) in
     (ap₂ (λ (x : ℕ) (l : List ℕ). x ∷ l) z r.0, r.1)
 
 -- A list of at least one label, taken apart.
@@ -193,7 +210,8 @@ record Opened (K : ℕ) (text : List ℕ) (l : List ℕ) (ls : List (List ℕ)) 
   labelled : Label K l
   others : Lists K rest ls
 
-opened : {K : ℕ} {text : List ℕ} {ms : List (List ℕ)} → Lists K text ms → (l : List ℕ) (ls : List (List ℕ)) → ms ≡ l ∷ ls
+opened : {K : ℕ} {text : List ℕ} {ms : List (List ℕ)} → Lists K text ms → (l : List ℕ) (ls : List (List ℕ))
+    → ms ≡ l ∷ ls
     → Opened K text l ls
 unfolding among
 opened none l ls e = absurd (let n = ap length e in omega arith)
@@ -219,12 +237,15 @@ has_newline (b ∷ s) t = rw (has_newline s t) (or_true (eqb 10 b))
     or_true true = refl
     or_true false = refl
 
-line_found : (text : List ℕ) (at r : ℕ) → LineEnds text at r → (s t : List ℕ) → drop at text ≡ s ++ (10 ∷ t) → r < length text
+line_found : (text : List ℕ) (at r : ℕ) → LineEnds text at r → (s t : List ℕ) → drop at text ≡ s ++ (10 ∷ t)
+    → r < length text
 line_found text at r g s t e = ⊎_elim (λ l. l)
-    (λ l. never (among 10 (s ++ (10 ∷ t))) (has_newline s t) (ap (among 10) (sym e ∙ line_whole text at r g l) ∙ g.line))
+    (λ l. never (among 10 (s ++ (10 ∷ t))) (has_newline s t)
+    (ap (among 10) (sym e ∙ line_whole text at r g l) ∙ g.line))
     (lt_or_ge r (length text))
 
-line_rest : (text : List ℕ) (at r : ℕ) (g : LineEnds text at r) (s t : List ℕ) → among 10 s ≡ false → drop at text ≡ s ++ (10 ∷ t)
+line_rest : (text : List ℕ) (at r : ℕ) (g : LineEnds text at r) (s t : List ℕ) → among 10 s ≡ false
+    → drop at text ≡ s ++ (10 ∷ t)
     → (part text at (r - at) ≡ s) × (drop (r + 1) text ≡ t)
 line_rest text at r g s t h e =
     let l = line_found text at r g s t e in
@@ -242,7 +263,8 @@ head_inside text at r a g =
     let o = opened a.lists a.label a.labels refl in
     omega (arith, line_found text at r g (62 ∷ o.header) (a.label ++ (10 ∷ o.rest)) o.is)
 
-pub spans : (text : List ℕ) (at r e : ℕ) → Recorded text at → LineEnds text at r → LineEnds text (r + 1) e → Spans text at (r + 1) e
+pub spans : (text : List ℕ) (at r e : ℕ) → Recorded text at → LineEnds text at r → LineEnds text (r + 1) e
+    → Spans text at (r + 1) e
 spans text at r e a g k =
     let o = opened a.lists a.label a.labels refl in
     let c = line_rest text at r g (62 ∷ o.header) (a.label ++ (10 ∷ o.rest)) o.headed o.is in

@@ -39,7 +39,8 @@ use Rattle.marks.specs.Ready.{keys_for, Ready}
 use Rattle.judging.specs.Says.{Sees, Kmers, turned_of, exit_of, after_of, leads_by, step_by, lesser_of}
 
 -- The smaller of a k-mer and its reverse complement is its canonical form.
-lesser_canon : (K : ℕ) (here other : Kmer) (x : ℕ) → value_of here ≡ x → value_of other ≡ rc K x → lesser_of here other ≡ canon K x
+lesser_canon : (K : ℕ) (here other : Kmer) (x : ℕ) → value_of here ≡ x → value_of other ≡ rc K x
+    → lesser_of here other ≡ canon K x
 unfolding canon
 lesser_canon K here other x p q =
     ap₂ (λ (a b : ℕ). cond (ltb a b) a b) q p
@@ -80,7 +81,8 @@ module _ {K : ℕ} {keys ms : List ℕ} (r : Ready K keys ms) (x : Kmer) (l : va
   canon_is : value_of c ≡ canon K (value_of x)
   canon_is = smaller ∙ lesser_canon K x y (value_of x) refl turned
 
-  pub seen_at : {w : ℕ} → f ≡ Ok w → Sees K ks (ends ms) (value_of x) (record { here = x; other = y; mark = get_or ms w 0 })
+  pub seen_at : {w : ℕ} → f ≡ Ok w → Sees K ks (ends ms) (value_of x)
+      (record { here = x; other = y; mark = get_or ms w 0 })
   unfolding retained
   seen_at {w} e =
       let p : (stored ks (canon K (value_of x)) ≡ true) × (rank ks (canon K (value_of x)) ≡ w) =
@@ -105,7 +107,8 @@ pub rolled_is : (K : ℕ) (x : Kmer) → ok_k K ≡ true → value_of x < 4 ^ K 
     → Answers r (forward_call K (value_of x) b) → r ≡ Ok (kmer_of (forward K (value_of x) b))
 rolled_is K x ok l b h t = roll_given K (value_of x) ok l b (forward K (value_of x) b) h t
 
-pub after_is : (K : ℕ) (x : Seen) (s : Side) → Kmers K x → {b c : ℕ} → b ≡ end_in x.mark s → end_in x.mark s < 4 → c ≡ leaving s (b % 4)
+pub after_is : (K : ℕ) (x : Seen) (s : Side) → Kmers K x → {b c : ℕ} → b ≡ end_in x.mark s → end_in x.mark s < 4
+    → c ≡ leaving s (b % 4)
     → {r : Result Kmer KmerError} → Answers r (forward_call K (value_of x.here) c) → r ≡ Ok (kmer_of (after_of K x s))
 after_is K x s k {b} {c} e l f t =
     let q : b % 4 ≡ end_in x.mark s = omega arith in
@@ -138,7 +141,8 @@ module _ {K : ℕ} {ks : List ℕ} {es : List Ends} where
     edges = λ t. g.edges t ∙ ap (λ (z : ℕ). cond (stored ks z) (edge es (rank ks z) t) 5) (sym (canon_rc K x g.below));
   }
 
-  sees_leads : {x : ℕ} {s : Seen} → Sees K ks es x s → (t u : Side) → t ≡ u → (y z : ℕ) → y ≡ z → leads_by K s t y ≡ leads_to K ks es x u z
+  sees_leads : {x : ℕ} {s : Seen} → Sees K ks es x s → (t u : Side) → t ≡ u → (y z : ℕ) → y ≡ z
+      → leads_by K s t y ≡ leads_to K ks es x u z
   unfolding leads_to
   sees_leads g t u e y z q = rw (e, q, g.edges u, g.here)
 
@@ -159,9 +163,11 @@ module _ {K : ℕ} {ks : List ℕ} {es : List Ends} where
 -- ---- an end
 
 pub after_small : (K : ℕ) {v : ℕ} (x : Seen) (s : Side) → v ≡ after_of K x s → v < 4 ^ K
-after_small K x s e = subst (λ (n : ℕ). n < 4 ^ K) (sym e) (forward_lt K (value_of x.here) (leaving s (end_in x.mark s)))
+after_small K x s e = subst (λ (n : ℕ). n < 4 ^ K) (sym e)
+    (forward_lt K (value_of x.here) (leaving s (end_in x.mark s)))
 
-module _ {K : ℕ} {ks : List ℕ} {es : List Ends} (f x : Seen) (n m : ℕ) (gf : Sees K ks es n f) (gx : Sees K ks es m x) {s : Side}
+module _ {K : ℕ} {ks : List ℕ} {es : List Ends} (f x : Seen) (n m : ℕ) (gf : Sees K ks es n f) (gx : Sees K ks es m x)
+    {s : Side}
     (es-is : s ≡ exit_of x)
     {b : ℕ} (eb : b ≡ end_in x.mark s) where
   side_is : s ≡ exit K ks es m
@@ -171,19 +177,23 @@ module _ {K : ℕ} {ks : List ℕ} {es : List Ends} (f x : Seen) (n m : ℕ) (gf
   unfolding loose_end leads_to
   loose_none h =
       let e : ltb (retained K ks es m (exit K ks es m)) 4 ≡ false =
-      le-ltb (retained K ks es m (exit K ks es m)) 4 (omega (arith, ap (retained K ks es m) (sym side_is), gx.edges s)) in
+      le-ltb (retained K ks es m (exit K ks es m)) 4
+      (omega (arith, ap (retained K ks es m) (sym side_is), gx.edges s)) in
       rw e
 
   after_value : (z : Kmer) → value_of z ≡ after_of K x s → value_of z ≡ after K ks es m (exit K ks es m)
-  after_value z e = e ∙ ap₂ (λ (p q : ℕ). forward K p q) gx.here (ap₂ leaving side_is (gx.edges s ∙ ap (retained K ks es m) side_is))
+  after_value z e = e ∙ ap₂ (λ (p q : ℕ). forward K p q) gx.here
+      (ap₂ leaving side_is (gx.edges s ∙ ap (retained K ks es m) side_is))
 
-  module _ (z : Kmer) (ez : value_of z ≡ after_of K x s) (y : Seen) (gy : Sees K ks es (value_of z) y) {r : Bool} (er : r ≡ step_by K x y) where
+  module _ (z : Kmer) (ez : value_of z ≡ after_of K x s) (y : Seen) (gy : Sees K ks es (value_of z) y) {r : Bool}
+      (er : r ≡ step_by K x y) where
     step_is : r ≡ is_step K ks es m (after K ks es m (exit K ks es m))
     step_is = er ∙ sees_step gx gy ∙ ap (is_step K ks es m) (after_value z ez)
 
     pub loose_no : r ≡ false → r ≡ loose_end K ks es n m
     unfolding loose_end
-    loose_no h = let e : is_step K ks es m (after K ks es m (exit K ks es m)) ≡ false = sym step_is ∙ h in h ∙ sym (rw e)
+    loose_no h = let e : is_step K ks es m (after K ks es m (exit K ks es m)) ≡ false =
+        sym step_is ∙ h in h ∙ sym (rw e)
 
     pub loose_on : r ≡ true → {p q t : ℕ} → p ≡ lesser_of x.here x.other → q ≡ lesser_of y.here y.other → t
         ≡ lesser_of f.here f.other → {d : Bool} → d ≡ apart K p q t → d ≡ loose_end K ks es n m
@@ -191,7 +201,9 @@ module _ {K : ℕ} {ks : List ℕ} {es : List Ends} (f x : Seen) (n m : ℕ) (gf
     loose_on h {p} {q} {t} ep eq et {d} ed =
         let e : is_step K ks es m (after K ks es m (exit K ks es m)) ≡ true = sym step_is ∙ h in
         let cp : p ≡ canon K m = ep ∙ sees_canon gx in
-        let cq : q ≡ canon K (after K ks es m (exit K ks es m)) = eq ∙ sees_canon gy ∙ ap (canon K) (after_value z ez) in
+        let cq : q ≡ canon K (after K ks es m (exit K ks es m)) =
+        eq ∙ sees_canon gy ∙ ap (canon K) (after_value z ez) in
         let ct : t ≡ canon K n = et ∙ sees_canon gf in
-        ed ∙ ap₂ (λ (u v : ℕ). apart K u v t) cp cq ∙ ap (apart K (canon K m) (canon K (after K ks es m (exit K ks es m)))) ct
+        ed ∙ ap₂ (λ (u v : ℕ). apart K u v t) cp cq
+        ∙ ap (apart K (canon K m) (canon K (after K ks es m (exit K ks es m)))) ct
         ∙ sym (rw e)

@@ -36,7 +36,12 @@ module _ {K : ℕ} {keys ms : List ℕ} (r : Ready K keys ms) (cells : List ℕ)
 
   marked_gap : {w : ℕ} → f ≡ Err w → Marked K keys ms c true ms
   unfolding is_live
-  marked_gap e = record { told = sym (rw (gap_is r cells c ended e)); ends_kept = refl; marked = λ h. never true refl h }
+  marked_gap e = record {
+    told = sym (rw
+        (gap_is r cells c ended e));
+    ends_kept = refl;
+    marked = λ h. never true refl h;
+  }
 
   module _ {w : ℕ} (e : f ≡ Ok w) {s : Bool} (q : s ≡ (visited (visits ms) w || isolated (ends ms) w)) where
     wrong_is : (not (is_live K ks (ends ms) c) || visited (visits ms) (rank ks c))
@@ -65,12 +70,15 @@ module _ {K : ℕ} {keys ms : List ℕ} (r : Ready K keys ms) (cells : List ℕ)
 
 -- ---- with its edges
 
-joined_alike : (K : ℕ) (label : List ℕ) (o : ℕ) (s : Side) (f g : Side → ℕ) → ((t : Side) → f t ≡ g t) → joined_by K label o s f
+joined_alike : (K : ℕ) (label : List ℕ) (o : ℕ) (s : Side) (f g : Side → ℕ) → ((t : Side) → f t ≡ g t)
+    → joined_by K label o s f
     ≡ joined_by K label o s g
 joined_alike K label o s f g h =
-    ap₂ (λ (a b : ℕ). followed K label o (leaving s a) && preceded label o (leaving (opposite s) b)) (h s) (h (opposite s))
+    ap₂ (λ (a b : ℕ). followed K label o (leaving s a) && preceded label o (leaving (opposite s) b)) (h s)
+    (h (opposite s))
 
-module _ {K : ℕ} {keys ms : List ℕ} (r : Ready K keys ms) (cells label : List ℕ) (o c : ℕ) (side : Side) {f : Result ℕ ℕ}
+module _ {K : ℕ} {keys ms : List ℕ} (r : Ready K keys ms) (cells label : List ℕ) (o c : ℕ) (side : Side)
+    {f : Result ℕ ℕ}
     (ended : f ≡ find_by K (keys_for ms keys) cells c) where
   pub kmer_gap : {w : ℕ} → f ≡ Err w → TestsKmer K keys ms label o c side tested.Misplaced ms
   kmer_gap e = record { placed = marked_gap r cells c ended e; joined = λ h. never true refl h }
@@ -83,7 +91,8 @@ module _ {K : ℕ} {keys ms : List ℕ} (r : Ready K keys ms) (cells label : Lis
       edges_are : t ≡ joined_by K label o side (edge (ends ms) (rank (keys_for ms keys) c))
       edges_are =
           told ∙ joined_alike K label o side (end_in (get_or ms w 0)) (edge (ends ms) (rank (keys_for ms keys) c))
-          (λ u. sym (ap (λ (v : ℕ). edge (ends ms) v u) (at_is r cells c ended e).1 ∙ edge_is ms w (at_lt r cells c ended e) u))
+          (λ u. sym (ap (λ (v : ℕ). edge (ends ms) v u) (at_is r cells c ended e).1
+          ∙ edge_is ms w (at_lt r cells c ended e) u))
 
       pub kmer_fine : t ≡ true → TestsKmer K keys ms label o c side tested.Fine (set ms w (get_or ms w 0 % 64 + 64))
       kmer_fine h = record { placed = marked_now r cells c ended e q n; joined = λ _. ap not (sym h ∙ edges_are) }
@@ -103,7 +112,8 @@ module _ (K : ℕ) (ks : List ℕ) (es : List Ends) (x : ℕ) where
 
 window_tested : (K : ℕ) (keys ms label : List ℕ) (o : ℕ) {c : ℕ} {s : Side} {r : Tested} {after : List ℕ}
     → TestsKmer K keys ms label o c s r after
-    → c ≡ canon K (window K label o) → s ≡ exit K (keys_for ms keys) (ends ms) (window K label o) → TestsWindow K keys ms label o r after
+    → c ≡ canon K (window K label o) → s ≡ exit K (keys_for ms keys) (ends ms) (window K label o)
+    → TestsWindow K keys ms label o r after
 unfolding is_live retained
 window_tested K keys ms label o {c} {s} {r} {after} t ec es =
     let ks = keys_for ms keys in
@@ -117,7 +127,8 @@ window_tested K keys ms label o {c} {s} {r} {after} t ec es =
           ∙ (both (stored ks c) (not (isolated (ends ms) (rank ks c))) live).0 in
           t.joined h
           ∙ ap (λ (u : Side). not (joined_by K label o u (edge (ends ms) (rank ks c)))) es
-          ∙ ap not (joined_alike K label o (exit K ks (ends ms) x) (edge (ends ms) (rank ks c)) (retained K ks (ends ms) x)
+          ∙ ap not (joined_alike K label o (exit K ks (ends ms) x) (edge (ends ms) (rank ks c))
+          (retained K ks (ends ms) x)
           (λ u. ap (λ (z : ℕ). edge (ends ms) (rank ks z) u) ec ∙ sym (rw st)));
     }
 
@@ -130,7 +141,8 @@ module _ (K : ℕ) (keys ms label : List ℕ) (o : ℕ) (x y : Kmer) (here : val
   by_strands : ltb (rc K (window K label o)) (window K label o) ≡ less
   by_strands = sym (compared ∙ ap₂ ltb other here)
 
-  pub turned_tested : less ≡ true → {r : Tested} {after : List ℕ} → TestsKmer K keys ms label o (value_of y) Front r after
+  pub turned_tested : less ≡ true → {r : Tested} {after : List ℕ}
+      → TestsKmer K keys ms label o (value_of y) Front r after
       → TestsWindow K keys ms label o r after
   turned_tested q t =
       let told = turned_smaller K (keys_for ms keys) (ends ms) (window K label o) (by_strands ∙ q) in

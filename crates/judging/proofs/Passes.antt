@@ -1,17 +1,15 @@
 -- A pass over the labels of a list, for any test. Assumes nothing.
 use Prim.Native.Nat.{ℕ, zero, suc, ◌+◌, ◌-◌, ◌≤◌, ◌<◌}
 use mathlib.Core.Path.{◌≡◌, refl, sym, ap, ◌∙◌, subst}
-use mathlib.Core.Logic.{⊎_elim}
-use mathlib.Core.Bool.{Bool, true, false, cond}
+use mathlib.Core.Bool.{Bool, true, false}
 use mathlib.Core.List.{List, [], ◌∷◌}
 use native.Mathlib.Omega.{arith}
-use borrow.Author.Tests.{ne_eqb, ltb-false, lt-ltb, le-ltb}
+use borrow.Author.Tests.{ne_eqb, le-ltb}
 use lib.Dec.{ltb}
 use Rattle.std.proofs.Common.{Option, Some, None, Ok, Err, IfSome}
 use Rattle.std.specs.Option.{option_or}
 use lib.ListN.{length, drop, replicate, length-drop}
-use Rattle.lemmas.proofs.Tests.{choose, never}
-use Rattle.lemmas.proofs.Numbers.{lt_or_ge}
+use Rattle.lemmas.proofs.Tests.{never}
 use Rattle.dna.specs.Text.{part}
 use Rattle.rules.specs.Listing.{Label, Lists, Listing, holds, no_list, listing}
 use Rattle.rules.specs.Listing.Lists.{none, one}
@@ -25,7 +23,6 @@ use Rattle.rules.proofs.Listing.{listing_sound, listing_complete, lists_labels}
 use Rattle.rules.proofs.Firsts.{first_here, first_on, first_nil}
 use Rattle.laws.specs.Demand.{Each, Each.more}
 use Rattle.judging.specs.declared.Tested.{Tested}
-use Rattle.judging.specs.declared.AllPlaced.{AllPlaced}
 use Rattle.judging.specs.Places.{is_held, Recorded, Spans}
 use Rattle.judging.specs.declared.Span.{Span}
 use Rattle.marks.specs.Ready.{keys_for, Ready, Unvisited}
@@ -51,7 +48,8 @@ module _ (K : ℕ) (text : List ℕ) (test : Test) where
       go no_list e q = never false q refl
 
   -- Where the text goes on, so does the list.
-  some_left : {t : List ℕ} {rest : List (List ℕ)} → Lists K t rest → 1 ≤ length t → (l : List ℕ) × (ls : List (List ℕ)) × (rest ≡ l ∷ ls)
+  some_left : {t : List ℕ} {rest : List (List ℕ)} → Lists K t rest → 1 ≤ length t → (l : List ℕ) × (ls : List (List ℕ))
+      × (rest ≡ l ∷ ls)
   some_left none h = absurd (omega arith)
   some_left (one header label {ls = ls} n p r) h = (label, ls, refl)
 
@@ -103,7 +101,8 @@ module _ (K : ℕ) (text : List ℕ) (test : Test) where
 
         pub pass_found : {r : Bool} → r ≡ test done label → r ≡ true → Finds test (labels_in (listing K text)) (Some i)
         pass_found q t =
-            let f : first_of test done p.rest ≡ 0 = ap (first_of test done) rest_is ∙ first_here test done label next.1 (sym q ∙ t) in
+            let f : first_of test done p.rest ≡ 0 =
+            ap (first_of test done) rest_is ∙ first_here test done label next.1 (sym q ∙ t) in
             let n : length p.rest ≡ suc (length next.1) = ap length rest_is in
             rw all_is (omega (arith, p.found), omega (arith, p.number))
 
@@ -126,7 +125,8 @@ module _ (K : ℕ) (text : List ℕ) (test : Test) where
 
 -- ---- a test that asks nothing of the labels before
 
-pub any_done_4 : (K : ℕ) (ks : List ℕ) (es : List Ends) (done : List (List ℕ)) (l : List ℕ) → breaks4 K ks es [] l ≡ breaks4 K ks es done l
+pub any_done_4 : (K : ℕ) (ks : List ℕ) (es : List Ends) (done : List (List ℕ)) (l : List ℕ)
+    → breaks4 K ks es [] l ≡ breaks4 K ks es done l
 unfolding breaks4
 any_done_4 K ks es done l = refl
 
@@ -145,12 +145,14 @@ module _ (text : List ℕ) (i : ℕ) (before : Option Span) (at : ℕ) (o : Orde
   pub ordering_record : (K : ℕ) → is_held (listing K text) ≡ true → at < length text → Recorded text at
   ordering_record K q h = pass_record K text breaks1 (o.passing K q).1 h
 
-  pub ordering_end : length text ≤ at → (K : ℕ) → is_held (listing K text) ≡ true → Finds breaks1 (labels_in (listing K text)) None
+  pub ordering_end : length text ≤ at → (K : ℕ) → is_held (listing K text) ≡ true
+      → Finds breaks1 (labels_in (listing K text)) None
   ordering_end h K q = pass_end K text breaks1 (o.passing K q).1 h
 
   module _ (h : at < length text) (l : Span) (g : Spans text at l.start l.end) {r : Bool}
       (e : (done : List (List ℕ)) → Follows text before done → r ≡ breaks1 done (spanned text l)) where
-    pub ordering_found : r ≡ true → (K : ℕ) → is_held (listing K text) ≡ true → Finds breaks1 (labels_in (listing K text)) (Some i)
+    pub ordering_found : r ≡ true → (K : ℕ) → is_held (listing K text) ≡ true
+        → Finds breaks1 (labels_in (listing K text)) (Some i)
     ordering_found t K q = let p = o.passing K q in pass_found K text breaks1 p.1 h g (e p.0 p.2) t
 
     pub ordering_on : r ≡ false → Ordering text (i + 1) (Some l) (l.end + 1)
@@ -170,7 +172,8 @@ placing_start {K} {keys} {ms} {text} r u h = record {
   ready = r;
   kept = refl;
   passing = pass_start K text (breaks2 K (keys_for ms keys) (ends ms)) h;
-  stood = λ x s. ap (λ (vs : List ℕ). visited vs (rank (keys_for ms keys) x)) u ∙ blank (length ms) (rank (keys_for ms keys) x)
+  stood = λ x s. ap (λ (vs : List ℕ). visited vs (rank (keys_for ms keys) x)) u
+      ∙ blank (length ms) (rank (keys_for ms keys) x)
       ∙ sym (le-ltb 0 0 (omega arith));
   split = λ x. omega arith;
   noted = omega arith;
@@ -191,7 +194,8 @@ module _ {K : ℕ} {keys ms₀ text ms : List ℕ} {done : List (List ℕ)} {bad
 
   none_behind : length text ≤ at → labels_in (listing K (drop at text)) ≡ []
   none_behind h =
-      ap labels_in (listing_complete K p.passing.left) ∙ none_left K text test2 p.passing.left (omega (arith, length-drop at text))
+      ap labels_in (listing_complete K p.passing.left)
+      ∙ none_left K text test2 p.passing.left (omega (arith, length-drop at text))
 
   pub placing_end : length text ≤ at → Placed K keys ms₀ text (Ok (record { labels = i; bad = bad })) ms
   unfolding occurrences
@@ -203,7 +207,8 @@ module _ {K : ℕ} {keys ms₀ text ms : List ℕ} {done : List (List ℕ)} {bad
         let q : stands_in K done x ≡ stands_in K (labels_in (listing K text)) x = omega (arith, p.split x) in
         p.stood x s ∙ ap (ltb 0) q;
     counted = pass_counted K text test2 p.passing h;
-    stepped = noted_all (labels_in (listing K text)) bad p.noted (ap (first_of test3 done) (none_behind h) ∙ first_nil test3 done)
+    stepped = noted_all (labels_in (listing K text)) bad p.noted
+        (ap (first_of test3 done) (none_behind h) ∙ first_nil test3 done)
         (pass_counted K text test2 p.passing h);
   }
     where

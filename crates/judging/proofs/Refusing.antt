@@ -55,7 +55,8 @@ module _ (test : Test) (ls : List (List ℕ)) {f : Option ℕ} (g : Finds test l
 
 -- ---- rules 2 and 3
 
-module _ {K : ℕ} {keys ms text after : List ℕ} (ready : Ready K keys ms) {f : Result AllPlaced ℕ} (p : Placed K keys ms text f after) where
+module _ {K : ℕ} {keys ms text after : List ℕ} (ready : Ready K keys ms) {f : Result AllPlaced ℕ}
+    (p : Placed K keys ms text f after) where
   abbrev labels : List (List ℕ)
   labels = labels_in (listing K text)
 
@@ -66,14 +67,16 @@ module _ {K : ℕ} {keys ms text after : List ℕ} (ready : Ready K keys ms) {f 
   test3 = breaks3 K (keys_for ms keys) (ends ms)
 
   module _ {all : AllPlaced} (q : f ≡ Ok all) {r : Bool} (l : Lacking after r) where
-    none_misplaced : (ltb (first_of test2 [] labels) (length labels) ≡ false) × (length labels ≤ first_of test2 [] labels)
+    none_misplaced : (ltb (first_of test2 [] labels) (length labels) ≡ false)
+        × (length labels ≤ first_of test2 [] labels)
     none_misplaced = none_found test2 labels p.found (ap first_in q)
 
     number_is : length labels ≡ all.labels
     number_is = IfOk-at_ok (λ (a : AllPlaced). length labels ≡ a.labels) q p.counted
 
     lack : r ≡ lacks K (keys_for ms keys) (ends ms) labels
-    lack = lacking_is ready p.ends_kept labels (IfOk-at_ok (λ _. Stood (keys_for ms keys) after (stands_in K labels)) q p.stood) l
+    lack = lacking_is ready p.ends_kept labels
+        (IfOk-at_ok (λ _. Stood (keys_for ms keys) after (stands_in K labels)) q p.stood) l
 
     steps_are : Finds test3 labels all.bad
     steps_are = IfOk-at_ok (λ (a : AllPlaced). Finds test3 labels a.bad) q p.stepped
@@ -95,7 +98,8 @@ module _ {K : ℕ} {keys ms text after : List ℕ} (ready : Ready K keys ms) {f 
           let k = some_found test3 labels steps_are e in
           rw (none_misplaced.0, none_lacks, k.0, k.1)
 
-      pub third_kept : all.bad ≡ None → {a : Answer Verdict} → a ≡ gives (ends_verdict K (keys_for after keys) (ends after) labels)
+      pub third_kept : all.bad ≡ None → {a : Answer Verdict}
+          → a ≡ gives (ends_verdict K (keys_for after keys) (ends after) labels)
           → a ≡ gives (kmers_verdict K (keys_for ms keys) (ends ms) labels)
       third_kept e {a} s =
           let k = none_found test3 labels steps_are e in
@@ -113,12 +117,15 @@ module _ (κ : Kind) (K cutoff : ℕ) (keys counts ms₀ : List ℕ) (t : FitTab
   unfolding verdict ends_in
   first_kept ls g q {a} e =
       let h = none_found breaks1 ls g q in
-      let same : a ≡ gives (kmers_verdict K (keys_for ms₀ keys) (map (ends_of κ cutoff) (take (length ms₀) counts)) ls) =
+      let same : a ≡ gives (kmers_verdict K (keys_for ms₀ keys)
+      (map (ends_of κ cutoff) (take (length ms₀) counts)) ls) =
       e ∙ ap₂ (λ (ks : List ℕ) (es : List Ends). gives (kmers_verdict K ks es ls))
-      (ap (λ (m : ℕ). keys_of m keys) (long κ K cutoff keys counts ms₀ t digested)) (ends_are κ K cutoff keys counts ms₀ t digested) in
+      (ap (λ (m : ℕ). keys_of m keys) (long κ K cutoff keys counts ms₀ t digested))
+      (ends_are κ K cutoff keys counts ms₀ t digested) in
       rw h.0 same
 
-pub first_broken : (K : ℕ) (ks : List ℕ) (es : List Ends) (ls : List (List ℕ)) {f : Option ℕ} → Finds breaks1 ls f → {i : ℕ} → f ≡ Some i
+pub first_broken : (K : ℕ) (ks : List ℕ) (es : List Ends) (ls : List (List ℕ)) {f : Option ℕ} → Finds breaks1 ls f
+    → {i : ℕ} → f ≡ Some i
     → gives (no 1 i) ≡ gives (verdict K ks es ls)
 unfolding verdict
 first_broken K ks es ls g e = let h = some_found breaks1 ls g e in rw (h.0, h.1)
@@ -127,7 +134,8 @@ first_broken K ks es ls g e = let h = some_found breaks1 ls g e in rw (h.0, h.1)
 
 module _ (κ : Kind) (K cutoff n : ℕ) (keys counts text marks : List ℕ) where
   -- Judged over the first n marks; those behind stay.
-  pub first_n : n ≤ length marks → is_held (listing K text) ≡ true → {r : Result (Option Broken) JudgeError} {exit : List ℕ}
+  pub first_n : n ≤ length marks → is_held (listing K text) ≡ true
+      → {r : Result (Option Broken) JudgeError} {exit : List ℕ}
       → (judge_answer r ≡ gives (verdict K (keys_for (take n marks) keys)
       (ends_in κ cutoff (table_of (length (take n marks)) keys counts)) (labels_in (listing K text))))
       × (exit ≡ replicate (length (take n marks)) 0)
@@ -154,7 +162,8 @@ module _ (κ : Kind) (K cutoff n : ℕ) (keys counts text marks : List ℕ) wher
   stays = record { answer = refl; marks_after = refl }
 
   module _ {r : Result (Unit {0}) FitError} (t : fit_answer r ≡ fit_call κ K n keys counts) where
-    pub not_taken : (e : FitError) → r ≡ Err e → Judges (Err (refused_fit e)) marks (judge κ K cutoff n keys counts text marks)
+    pub not_taken : (e : FitError) → r ≡ Err e
+        → Judges (Err (refused_fit e)) marks (judge κ K cutoff n keys counts text marks)
     unfolding judge
     not_taken (fits.UnsupportedK k) e = let q = told_unsupported κ K n keys counts t e in rw (q.0, q.1) stays
     not_taken fits.Unfit e = let q = told_unfit κ K n keys counts t e in rw (q.0, q.1) stays
@@ -189,6 +198,7 @@ module _ (κ : Kind) (K cutoff n : ℕ) (keys counts text marks : List ℕ) wher
           unfolding on_list
           no_list_lem z = goes_on (go (listing K text) (sym told ∙ z))
             where
-              go : (l : Listing) → is_held l ≡ false → Judges (Err errors.NoList) marks (on_list κ K cutoff n keys counts text marks l)
+              go : (l : Listing) → is_held l ≡ false
+                  → Judges (Err errors.NoList) marks (on_list κ K cutoff n keys counts text marks l)
               go (holds ls) w = never true refl w
               go no_list w = stays

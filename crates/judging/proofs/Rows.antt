@@ -38,7 +38,8 @@ module _ (K : ℕ) (label : List ℕ) where
       ap (λ (m : ℕ). window K label o ∷ windows_from K m (drop 1 (drop o label))) e
 
   pub row_first : K ≤ length label → windows_of K label ≡ row_from K label 0
-  row_first h = let e : suc (length label) - K ≡ suc (length label - K - 0) = omega arith in ap (λ (m : ℕ). windows_from K m label) e
+  row_first h = let e : suc (length label) - K ≡ suc (length label - K - 0) =
+      omega arith in ap (λ (m : ℕ). windows_from K m label) e
 
   row_head : (o : ℕ) → (rest : List ℕ) × (row_from K label o ≡ window K label o ∷ rest)
   unfolding windows_from
@@ -46,7 +47,8 @@ module _ (K : ℕ) (label : List ℕ) where
 
   row_end : (o m : ℕ) → o + m ≡ length label - K → last_of (row_from K label o) ≡ window K label (length label - K)
   unfolding last_of
-  row_end o zero h = let e : o ≡ length label - K = omega arith in ap last_of (row_last o (omega arith)) ∙ ap (window K label) e
+  row_end o zero h = let e : o ≡ length label - K =
+      omega arith in ap last_of (row_last o (omega arith)) ∙ ap (window K label) e
   row_end o (suc m) h =
       let r = row_head (suc o) in
       ap last_of (row_next o (omega arith) ∙ ap (λ (t : List ℕ). window K label o ∷ t) r.1)
@@ -64,12 +66,14 @@ module _ (K : ℕ) (label : List ℕ) where
 module _ (K : ℕ) (ks : List ℕ) (es : List Ends) (label : List ℕ) where
   pub row_bad : (o : ℕ) → o < length label - K
       → bad_step K ks es (row_from K label o)
-      ≡ (not (is_step K ks es (window K label o) (window K label (suc o))) || bad_step K ks es (row_from K label (suc o)))
+      ≡ (not (is_step K ks es (window K label o) (window K label (suc o))) || bad_step K ks es
+      (row_from K label (suc o)))
   unfolding bad_step
   row_bad o h =
       let r = row_head K label (suc o) in
       ap (bad_step K ks es) (row_next K label o h ∙ ap (λ (t : List ℕ). window K label o ∷ t) r.1)
-      ∙ ap (λ (t : List ℕ). not (is_step K ks es (window K label o) (window K label (suc o))) || bad_step K ks es t) (sym r.1)
+      ∙ ap (λ (t : List ℕ). not (is_step K ks es (window K label o) (window K label (suc o))) || bad_step K ks es t)
+      (sym r.1)
 
   -- The last has none.
   pub row_alone : (o : ℕ) → length label - K ≤ o → bad_step K ks es (row_from K label o) ≡ false
@@ -111,14 +115,16 @@ module _ (K : ℕ) (ok : ok_k K ≡ true) (label : List ℕ) (p : Label K label)
       let h : K ≤ length label = p.1 in
       let r = row_head K label 0 in
       let w = row_first K label h ∙ r.1 in
-      ap (λ (t : List ℕ). get_or t 0 0) (label_turned K (ok_bounds K ok).0 label p ∙ ap (λ (t : List ℕ). reverse (map (rc K) t)) w)
+      ap (λ (t : List ℕ). get_or t 0 0) (label_turned K (ok_bounds K ok).0 label p
+      ∙ ap (λ (t : List ℕ). reverse (map (rc K) t)) w)
       ∙ turned_first (rc K) (window K label 0) r.0 ∙ ap (rc K) (ap last_of (sym w) ∙ label_last K label h)
 
   other_last : last_of (windows_of K (reverse_complement label)) ≡ rc K (window K label 0)
   other_last =
       let h : K ≤ length label = p.1 in
       let r = row_head K label 0 in
-      ap last_of (label_turned K (ok_bounds K ok).0 label p ∙ ap (λ (t : List ℕ). reverse (map (rc K) t)) (row_first K label h ∙ r.1))
+      ap last_of (label_turned K (ok_bounds K ok).0 label p
+      ∙ ap (λ (t : List ℕ). reverse (map (rc K) t)) (row_first K label h ∙ r.1))
       ∙ turned_last (rc K) (window K label 0) r.0
 
   module _ (ks : List ℕ) (es : List Ends) {first last : Seen} (gf : Sees K ks es (window K label 0) first)
@@ -132,13 +138,16 @@ module _ (K : ℕ) (ok : ok_k K ≡ true) (label : List ℕ) (p : Label K label)
 
     pub end_loose : a ≡ true → a ≡ breaks4 K ks es [] label
     unfolding breaks4
-    end_loose h = let e : loose_end K ks es (get_or (windows_of K label) 0 0) (last_of (windows_of K label)) ≡ true = sym one_end ∙ h in h ∙ sym (rw e)
+    end_loose h = let e : loose_end K ks es (get_or (windows_of K label) 0 0) (last_of (windows_of K label)) ≡ true =
+        sym one_end ∙ h in h ∙ sym (rw e)
 
     pub end_other : a ≡ false → {f x : Seen} → f ≡ turned_of last → x ≡ turned_of first
-        → {b : Bool} → ((n m : ℕ) → Sees K ks es n f → Sees K ks es m x → b ≡ loose_end K ks es n m) → b ≡ breaks4 K ks es [] label
+        → {b : Bool} → ((n m : ℕ) → Sees K ks es n f → Sees K ks es m x → b ≡ loose_end K ks es n m)
+        → b ≡ breaks4 K ks es [] label
     unfolding breaks4
     end_other h ef ex {b} eb =
-        let e : loose_end K ks es (get_or (windows_of K label) 0 0) (last_of (windows_of K label)) ≡ false = sym one_end ∙ h in
+        let e : loose_end K ks es (get_or (windows_of K label) 0 0) (last_of (windows_of K label)) ≡ false =
+        sym one_end ∙ h in
         let g = subst (Sees K ks es (rc K (window K label (length label - K)))) (sym ef) (sees_turned gl) in
         let k = subst (Sees K ks es (rc K (window K label 0))) (sym ex) (sees_turned gf) in
         eb (rc K (window K label (length label - K))) (rc K (window K label 0)) g k

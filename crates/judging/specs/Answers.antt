@@ -39,5 +39,6 @@ module _ (K : ℕ) (ks : List ℕ) (es : List Ends) (ls : List (List ℕ)) where
   -- What rules 2 to 4 do.
   abbrev pub kmers_verdict : Verdict
   kmers_verdict =
-      cond (ltb (first_of (breaks2 K ks es) [] ls) (length ls) || lacks K ks es ls) (no 2 (first_of (breaks2 K ks es) [] ls))
+      cond (ltb (first_of (breaks2 K ks es) [] ls) (length ls) || lacks K ks es ls)
+      (no 2 (first_of (breaks2 K ks es) [] ls))
       (cond (ltb (first_of (breaks3 K ks es) [] ls) (length ls)) (no 3 (first_of (breaks3 K ks es) [] ls)) ends_verdict)

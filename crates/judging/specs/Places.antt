@@ -27,5 +27,6 @@ pub record Spans (text : List ℕ) (at start end : ℕ) : Type 0 where
   pub ordered : start ≤ end
   pub within : end < length text
   pub on : at < end
-  pub first : (K : ℕ) (l : List ℕ) (ls : List (List ℕ)) → Lists K (drop at text) (l ∷ ls) → (l ≡ part text start (end - start))
+  pub first : (K : ℕ) (l : List ℕ) (ls : List (List ℕ)) → Lists K (drop at text) (l ∷ ls)
+      → (l ≡ part text start (end - start))
       × Lists K (drop (suc end) text) ls

@@ -1,5 +1,6 @@
 -- What rules 2 and 3 find of k-mers and labels, and what they leave in the marks. Assumes nothing.
-use Rattle.std.specs.Prelude.{ℕ, ◌+◌, ◌-◌, ◌≤◌, ◌<◌, ◌≡◌, Bool, true, false, cond, not, ◌&&◌, ◌||◌, Option, Some, None, Result, Ok, Err, IfOk, OnOk, List, [], ◌∷◌, map, ltb, eqb, length, get_or, set, drop}
+use Rattle.std.specs.Prelude.{ℕ, ◌+◌, ◌-◌, ◌≤◌, ◌<◌, ◌≡◌, Bool, true, false, cond, not, ◌&&◌, ◌||◌, Option, Some, None}
+use Rattle.std.specs.Prelude.{Result, Ok, Err, IfOk, OnOk, List, [], ◌∷◌, map, ltb, eqb, length, get_or, set, drop}
 use Rattle.dna.specs.Letters.{code_of}
 use Rattle.kmer.specs.Kmer.{canon}
 use Rattle.state.specs.declared.Side.{Side}
@@ -31,7 +32,8 @@ preceded label o b = cond (eqb o 0) true (eqb b (3 - code_of (get_or label (o - 
 
 -- The edges on the sides of window o, which is left by side s, are those of its neighbours in the label.
 abbrev pub joined_by : ℕ → List ℕ → ℕ → Side → (Side → ℕ) → Bool
-joined_by K label o s edges = followed K label o (leaving s (edges s)) && preceded label o (leaving (opposite s) (edges (opposite s)))
+joined_by K label o s edges = followed K label o (leaving s (edges s)) && preceded label o
+    (leaving (opposite s) (edges (opposite s)))
 
 -- ---- what is found
 
@@ -54,11 +56,13 @@ pub record Marked (K : ℕ) (keys ms : List ℕ) (c : ℕ) (r : Bool) (after : L
 -- A k-mer is tested: where it stands, and its edges.
 pub record TestsKmer (K : ℕ) (keys ms label : List ℕ) (o c : ℕ) (s : Side) (r : Tested) (after : List ℕ) : Type 0 where
   pub placed : Marked K keys ms c (is_misplaced r) after
-  pub joined : is_misplaced r ≡ false → is_bad r ≡ not (joined_by K label o s (edge (ends ms) (rank (keys_for ms keys) c)))
+  pub joined : is_misplaced r ≡ false → is_bad r ≡ not
+      (joined_by K label o s (edge (ends ms) (rank (keys_for ms keys) c)))
 
 -- The edge by which window o is left, and that by which it is entered.
 abbrev pub left : ℕ → List ℕ → List Ends → List ℕ → ℕ → Bool
-left K ks es label o = let x = window K label o in followed K label o (leaving (exit K ks es x) (retained K ks es x (exit K ks es x)))
+left K ks es label o = let x = window K label o in followed K label o
+    (leaving (exit K ks es x) (retained K ks es x (exit K ks es x)))
 
 abbrev pub entered : ℕ → List ℕ → List Ends → List ℕ → ℕ → Bool
 entered K ks es label o =
@@ -81,21 +85,24 @@ Stood ks ms count = (x : ℕ) → stored ks x ≡ true → visited (visits ms) (
 abbrev pub stands_in : ℕ → List (List ℕ) → ℕ → ℕ
 stands_in K ls x = occurrences K x ls
 
--- A label is tested, whatever labels stood before; where it keeps rule 2 its k-mers have stood too afterwards, and its steps are told.
+-- A label is tested, whatever labels stood before; where it keeps rule 2 its k-mers have stood too afterwards, and its
+-- steps are told.
 pub record Stands (K : ℕ) (keys ms label : List ℕ) (r : Tested) (after : List ℕ) : Type 0 where
   pub ends_kept : ends after ≡ ends ms
   pub told : (done : List (List ℕ)) → Stood (keys_for ms keys) ms (stands_in K done)
       → is_misplaced r ≡ breaks2 K (keys_for ms keys) (ends ms) done label
   pub stood : (done : List (List ℕ)) → Stood (keys_for ms keys) ms (stands_in K done) → is_misplaced r ≡ false
       → Stood (keys_for ms keys) after (stands_in K (label ∷ done))
-  pub stepped : is_misplaced r ≡ false → (done : List (List ℕ)) → is_bad r ≡ breaks3 K (keys_for ms keys) (ends ms) done label
+  pub stepped : is_misplaced r ≡ false → (done : List (List ℕ))
+      → is_bad r ≡ breaks3 K (keys_for ms keys) (ends ms) done label
 
 -- The first label with a misplaced k-mer, if there is one.
 abbrev pub first_in : Result AllPlaced ℕ → Option ℕ
 first_in (Ok p) = None
 first_in (Err i) = Some i
 
--- The pass over all labels; where none has a misplaced k-mer all k-mers have stood afterwards, and the first bad step is told.
+-- The pass over all labels; where none has a misplaced k-mer all k-mers have stood afterwards, and the first bad step
+-- is told.
 pub record Placed (K : ℕ) (keys ms text : List ℕ) (r : Result AllPlaced ℕ) (after : List ℕ) : Type 0 where
   pub ends_kept : ends after ≡ ends ms
   pub found : Finds (breaks2 K (keys_for ms keys) (ends ms)) (labels_in (listing K text)) (first_in r)
@@ -119,9 +126,11 @@ abbrev pub row_to : ℕ → List ℕ → ℕ → List ℕ
 row_to K label o = map (canon K) (windows_from K o label)
 
 -- They have stood beside the labels done, may stand, and stand for the first time.
-pub record Sofar (K : ℕ) (ks : List ℕ) (es : List Ends) (ms label : List ℕ) (o : ℕ) (done : List (List ℕ)) : Type 0 where
+pub record Sofar (K : ℕ) (ks : List ℕ) (es : List Ends) (ms label : List ℕ) (o : ℕ)
+    (done : List (List ℕ)) : Type 0 where
   pub stood : Stood ks ms (λ x. tally x (row_to K label o) + occurrences K x done)
-  pub fine : (x : ℕ) → 1 ≤ tally x (row_to K label o) → (is_live K ks es x ≡ true) × (tally x (row_to K label o) + occurrences K x done ≤ 1)
+  pub fine : (x : ℕ) → 1 ≤ tally x (row_to K label o) → (is_live K ks es x ≡ true)
+      × (tally x (row_to K label o) + occurrences K x done ≤ 1)
 
 -- A label is tested up to its k-mer o.
 pub record Testing (K : ℕ) (keys ms₀ label ms : List ℕ) (o : ℕ) : Type 0 where
@@ -134,7 +143,8 @@ pub record Testing (K : ℕ) (keys ms₀ label ms : List ℕ) (o : ℕ) : Type 0
 -- What is told of the steps up to window o, and what is left: the step to it, and those behind it.
 pub record Joining (K : ℕ) (ks : List ℕ) (es : List Ends) (label : List ℕ) (o : ℕ) (bad : Bool) : Type 0 where
   pub going : o + K ≤ length label
-      → bad_step K ks es (windows_of K label) ≡ (bad || (not (entered K ks es label o) || bad_step K ks es (row_from K label o)))
+      → bad_step K ks es (windows_of K label) ≡
+      (bad || (not (entered K ks es label o) || bad_step K ks es (row_from K label o)))
   pub gone : length label < o + K → bad_step K ks es (windows_of K label) ≡ bad
 
 -- Of the labels before label i a first one is found; or none is, and the rest decide.
@@ -148,6 +158,7 @@ pub record Placing (K : ℕ) (keys ms₀ text ms : List ℕ) (done : List (List 
   pub kept : ends ms ≡ ends ms₀
   pub passing : Passing K text (breaks2 K (keys_for ms₀ keys) (ends ms₀)) done i at
   pub stood : Stood (keys_for ms₀ keys) ms (stands_in K done)
-  pub split : (x : ℕ) → stands_in K (labels_in (listing K text)) x ≡ stands_in K done x + stands_in K (labels_in (listing K (drop at text))) x
+  pub split : (x : ℕ) → stands_in K (labels_in (listing K text)) x ≡ stands_in K done x + stands_in K
+      (labels_in (listing K (drop at text))) x
   pub noted : Noted bad i (first_of (breaks3 K (keys_for ms₀ keys) (ends ms₀)) [] (labels_in (listing K text)))
       (first_of (breaks3 K (keys_for ms₀ keys) (ends ms₀)) done (labels_in (listing K (drop at text))))

@@ -17,8 +17,8 @@ mod standing;
 
 pub use judgement::judge;
 
-// The first broken rule, from 1, and the lowest label concerned, from 0. The rule stays a number: the figure of the C interface and
-// the program say it by that number.
+// The first broken rule, from 1, and the lowest label concerned, from 0. The rule stays a number: the figure of the C
+// interface and the program say it by that number.
 #[derive(Clone, Copy, PartialEq, Eq, Debug)]
 pub struct Broken {
     pub rule: u8,
@@ -62,7 +62,8 @@ enum Tested {
     Fine,
 }
 
-// How many labels there are, whose k-mers all stand where they may, and the first of them with a bad step, if one has any.
+// How many labels there are, whose k-mers all stand where they may, and the first of them with a bad step, if one has
+// any.
 #[derive(Clone, Copy, PartialEq, Eq, Debug)]
 struct AllPlaced {
     labels: usize,

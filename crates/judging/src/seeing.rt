@@ -128,7 +128,8 @@ fn is_apart(k: usize, c: Kmer, d: Kmer, f: Kmer) -> bool
     !d.is_same(c) && !is_one_base(k, c) && !is_one_base(k, d) && !d.is_same(f)
 }
 
-// A row of windows ends with x and begins with f: x is joined by such an edge with another k-mer than f, and neither is one repeated base.
+// A row of windows ends with x and begins with f: x is joined by such an edge with another k-mer than f, and neither is
+// one repeated base.
 pub(crate) fn is_loose(
     k: usize,
     keys: &[u64],

@@ -11,8 +11,8 @@ use super::{AllPlaced, Tested, joining, places};
 use kmer::Kmer;
 use state::Side;
 
-// The canonical k-mer c of window o, which is left by a side, may not stand, or has stood before; else it is marked, and its edges are
-// compared with the label.
+// The canonical k-mer c of window o, which is left by a side, may not stand, or has stood before; else it is marked,
+// and its edges are compared with the label.
 fn test_kmer(
     k: usize,
     keys: &[u64],
@@ -78,7 +78,8 @@ fn test_label(k: usize, keys: &[u64], directory: &[u32], marks: &mut [u8], label
     found
 }
 
-// The labels in order, up to one with a misplaced k-mer, which is the Err; where there is none, the k-mers of all are marked.
+// The labels in order, up to one with a misplaced k-mer, which is the Err; where there is none, the k-mers of all are
+// marked.
 pub(crate) fn try_labels(
     k: usize,
     keys: &[u64],

@@ -1,4 +1,5 @@
--- Each refusal is a case of the definition, in its order; what is left is the list judged over a fit table. Assumes nothing.
+-- Each refusal is a case of the definition, in its order; what is left is the list judged over a fit table. Assumes
+-- nothing.
 use mathlib.Core.Path.{sym, ◌∙◌}
 use Rattle.std.proofs.lemmas.Result.{err_from_is_err_and}
 use Rattle.state.specs.Says.{kind_of}

@@ -9,5 +9,6 @@ use Rattle.judging.proofs.places.is_plain.Goals as goal
 
 pub returns : goal.returns
 returns c =
-    all_from_yields_List (λ b. among b (bytes "ACGT")) _ _ _ c.all.ensures.ran (YieldsList-from_slice c.args.label.now cc)
+    all_from_yields_List (λ b. among b (bytes "ACGT")) _ _ _ c.all.ensures.ran
+    (YieldsList-from_slice c.args.label.now cc)
     (λ x b q k. search (rules, tests)) ∙ sym (plain_all c.args.label.now)

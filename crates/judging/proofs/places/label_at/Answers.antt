@@ -7,7 +7,8 @@ pub line_end-start-requires : goal.line_end-start-requires
 line_end-start-requires c = omega (arith, record_inside c.args.text.now c.args.at c.requires)
 
 pub line_end-end-requires : goal.line_end-end-requires
-line_end-end-requires c = head_inside c.args.text.now c.args.at c.line_end-start.result c.requires c.line_end-start.ensures
+line_end-end-requires c =
+    head_inside c.args.text.now c.args.at c.line_end-start.result c.requires c.line_end-start.ensures
 
 pub returns : goal.returns
 returns c =

@@ -12,9 +12,11 @@ unwrap-x-requires c =
 pub see-requires : goal.see-requires
 see-requires c =
     let a = c.args in
-    (c.requires.0, window_small a.k c.requires.0.ok a.label.now c.requires.1 a.o c.requires.2 c.from_ascii.ensures c.unwrap-x.ensures)
+    let r = c.requires in
+    (r.0, window_small a.k r.0.ok a.label.now r.1 a.o r.2 c.from_ascii.ensures c.unwrap-x.ensures)
 
 pub returns : goal.returns
 returns c =
     let a = c.args in
-    rw (window_value a.k c.requires.0.ok a.label.now c.requires.1 a.o c.requires.2 c.from_ascii.ensures c.unwrap-x.ensures) at c.see.ensures
+    let r = c.requires in
+    rw (window_value a.k r.0.ok a.label.now r.1 a.o r.2 c.from_ascii.ensures c.unwrap-x.ensures) at c.see.ensures

@@ -45,14 +45,16 @@ loop-o-preserved c =
     let joined = λ (n : is_misplaced c.test_window.result ≡ false) (worse : Bool)
     (w : worse ≡ (is_bad c.loop-o.found || is_bad c.test_window.result)).
     joining_next a.k (keys_for a.marks.now a.keys.now) (ends a.marks.now) a.label.now (ok_bounds a.k c.requires.0.ok).0
-    (plain_bases a.label.now c.requires.1.0) c.loop-o.o inside i.joining (testing_joined i.testing c.test_window.ensures n) w in
+    (plain_bases a.label.now c.requires.1.0) c.loop-o.o inside i.joining
+    (testing_joined i.testing c.test_window.ensures n) w in
     elim c.match-test_window.branch [
       | in-BadStep w ↦
           let n = ap is_misplaced w.in-BadStep.is in
           record {
             none = ap is_misplaced w.found-is;
             testing = next n;
-            joining = joined n _ (ap is_bad w.found-is ∙ sym (or_on (is_bad c.loop-o.found) (ap is_bad w.in-BadStep.is)));
+            joining = joined n _ (ap is_bad w.found-is
+                ∙ sym (or_on (is_bad c.loop-o.found) (ap is_bad w.in-BadStep.is)));
           }
       | in-Fine w ↦
           let n = ap is_misplaced w.in-Fine.is in

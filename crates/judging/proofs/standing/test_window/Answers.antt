@@ -8,30 +8,32 @@ use Rattle.judging.proofs.standing.test_window.Goals as goal
 pub unwrap-x-requires : goal.unwrap-x-requires
 unwrap-x-requires c =
     let a = c.args in
-    ap is_ok (window_read a.k c.requires.0.ok a.label.now c.requires.1 a.o c.requires.2 c.from_ascii.ensures)
+    let r = c.requires in
+    ap is_ok (window_read a.k r.0.ok a.label.now r.1 a.o r.2 c.from_ascii.ensures)
 
 pub unwrap-y-requires : goal.unwrap-y-requires
 unwrap-y-requires c =
     let a = c.args in
-    let s = window_small a.k c.requires.0.ok a.label.now c.requires.1 a.o c.requires.2 c.from_ascii.ensures c.unwrap-x.ensures in
-    ap is_ok (turned_is a.k c.requires.0.ok c.unwrap-x.result s c.reverse_complement.ensures)
+    let r = c.requires in
+    let s = window_small a.k r.0.ok a.label.now r.1 a.o r.2 c.from_ascii.ensures c.unwrap-x.ensures in
+    ap is_ok (turned_is a.k r.0.ok c.unwrap-x.result s c.reverse_complement.ensures)
 
 pub returns-then-is_less : goal.returns-then-is_less
 returns-then-is_less c =
     let a = c.args in
-    let ok = c.requires.0.ok in
-    let v = window_value a.k ok a.label.now c.requires.1 a.o c.requires.2 c.from_ascii.ensures c.unwrap-x.ensures in
-    let s = window_small a.k ok a.label.now c.requires.1 a.o c.requires.2 c.from_ascii.ensures c.unwrap-x.ensures in
-    let t = turned_is a.k ok c.unwrap-x.result s c.reverse_complement.ensures in
-    turned_tested a.k a.keys.now a.marks.now a.label.now a.o c.unwrap-x.result c.unwrap-y.result v (unwrapped t c.unwrap-y.ensures)
-    c.is_less.ensures c.if-is_less.true c.test_kmer.ensures
+    let r = c.requires in
+    let v = window_value a.k r.0.ok a.label.now r.1 a.o r.2 c.from_ascii.ensures c.unwrap-x.ensures in
+    let s = window_small a.k r.0.ok a.label.now r.1 a.o r.2 c.from_ascii.ensures c.unwrap-x.ensures in
+    let t = turned_is a.k r.0.ok c.unwrap-x.result s c.reverse_complement.ensures in
+    turned_tested a.k a.keys.now a.marks.now a.label.now a.o c.unwrap-x.result c.unwrap-y.result v
+    (unwrapped t c.unwrap-y.ensures) c.is_less.ensures c.if-is_less.true c.test_kmer.ensures
 
 pub returns-else-is_less : goal.returns-else-is_less
 returns-else-is_less c =
     let a = c.args in
-    let ok = c.requires.0.ok in
-    let v = window_value a.k ok a.label.now c.requires.1 a.o c.requires.2 c.from_ascii.ensures c.unwrap-x.ensures in
-    let s = window_small a.k ok a.label.now c.requires.1 a.o c.requires.2 c.from_ascii.ensures c.unwrap-x.ensures in
-    let t = turned_is a.k ok c.unwrap-x.result s c.reverse_complement.ensures in
-    here_tested a.k a.keys.now a.marks.now a.label.now a.o c.unwrap-x.result c.unwrap-y.result v (unwrapped t c.unwrap-y.ensures)
-    c.is_less.ensures c.if-is_less.false c.test_kmer-else-is_less.ensures
+    let r = c.requires in
+    let v = window_value a.k r.0.ok a.label.now r.1 a.o r.2 c.from_ascii.ensures c.unwrap-x.ensures in
+    let s = window_small a.k r.0.ok a.label.now r.1 a.o r.2 c.from_ascii.ensures c.unwrap-x.ensures in
+    let t = turned_is a.k r.0.ok c.unwrap-x.result s c.reverse_complement.ensures in
+    here_tested a.k a.keys.now a.marks.now a.label.now a.o c.unwrap-x.result c.unwrap-y.result v
+    (unwrapped t c.unwrap-y.ensures) c.is_less.ensures c.if-is_less.false c.test_kmer-else-is_less.ensures

@@ -4,7 +4,8 @@ use Rattle.marks.specs.Marks.{ends}
 use Rattle.marks.specs.Ready.{keys_for}
 use Rattle.rules.specs.Verdict.{breaks2}
 use Rattle.judging.specs.Standing.{is_misplaced, is_bad}
-use Rattle.judging.proofs.Passes.{pass_record, pass_label, placing_start, placing_found, placing_bad, placing_fine, placing_end}
+use Rattle.judging.proofs.Passes.{pass_record, pass_label, placing_start, placing_found, placing_bad, placing_fine}
+use Rattle.judging.proofs.Passes.{placing_end}
 use Rattle.judging.proofs.standing.try_labels.Goals as goal
 use Rattle.judging.proofs.standing.try_labels.Goals.{in-BadStep, in-Fine}
 
