@@ -1,19 +1,13 @@
 -- What the parts of a call say. Assumes nothing.
-use Rattle.std.specs.Prelude.{ℕ, ◌+◌, ◌*◌, ◌≤◌, ◌≡◌, cond, [], eqb}
+use Rattle.std.specs.Prelude.{ℕ, ◌≡◌, cond, [], eqb}
 use Rattle.dna.specs.Answer.{Answer, gives, refuses}
-use Rattle.state.specs.Counted.{Kind, top, edge_at, edge_count, counted}
+use Rattle.state.specs.Counted.{Kind, edge_at, edge_count, counted}
 use Rattle.state.specs.declared.Side.{Side}
 use Rattle.state.specs.declared.Layout.{Layout}
 
 -- A kind as the code is given it.
 abbrev pub kind_in : Layout → Kind
 kind_in l = record { width = l.width; first = l.first }
-
--- Its eight counters have room in a word of 32 bits, and its top is theirs.
-pub record Holds (l : Layout) : Type 0 where
-  pub some : 1 ≤ l.width
-  pub room : l.first + l.width * 8 ≤ 32
-  pub full : l.top ≡ top (kind_in l)
 
 -- One of two neighbours counted on its side; 10 for N.
 abbrev pub neighbour_call : Kind → ℕ → Side → ℕ → Answer ℕ

@@ -1,7 +1,7 @@
 // The edges of a vertex in one word: counted, or marked as present.
 #![tactic(auto)]
 
-ghost use Rattle.std.specs.Prelude.{◌≡◌};
+ghost use Rattle.std.specs.Prelude.{◌≡◌, ◌+◌, ◌-◌, ◌*◌, ◌^◌, ◌≤◌};
 ghost use Rattle.state.specs.Counted.{opposite};
 
 mod counts;
@@ -45,12 +45,16 @@ pub struct NoBase;
 #[derive(Clone, Copy, PartialEq, Eq, Debug)]
 pub struct WrongCutoff;
 
-// How many bits a counter has, the bit at which the first starts, and the most that one counts.
+// How many bits a counter has, the bit at which the first starts, and the most that one counts: eight counters have
+// room in a word of 32 bits, and the top is theirs.
 #[derive(Clone, Copy)]
 struct Layout {
     width: u32,
     first: u32,
     top: u32,
+    ghost some: { 1 ≤ width },
+    ghost room: { first + width * 8 ≤ 32 },
+    ghost full: { top ≡ 2 ^ width - 1 },
 }
 
 // A side's four tests added up: how many bases are retained, and the sum of their codes, which is the base where

@@ -2,7 +2,7 @@
 ghost use Rattle.std.specs.Prelude.{◌≡◌, ◌+◌, ◌*◌, ◌<◌, leb};
 ghost use Rattle.dna.specs.Calls.{code_in};
 ghost use Rattle.state.specs.Counted.{slot_of, count, raise, edge_at, add_edge_call, update_call};
-ghost use Rattle.state.specs.Parts.{kind_in, Holds, neighbour_call, Tallied};
+ghost use Rattle.state.specs.Parts.{kind_in, neighbour_call, Tallied};
 ghost use Rattle.state.specs.Says.{word_answer};
 
 use super::{Layout, NoBase, Side, Tally};
@@ -21,7 +21,7 @@ pub(crate) fn slot(side: Side, bits: u32) -> u32
 
 // The bit at which a counter starts.
 fn place(l: Layout, slot: u32) -> u32
-    requires { Holds l × (slot < 8) }
+    requires { slot < 8 }
     ensures { (result ≡ l.first + l.width * slot) × (result < 32) }
 {
     l.first + l.width * slot
@@ -29,7 +29,7 @@ fn place(l: Layout, slot: u32) -> u32
 
 // The count of a counter.
 pub(crate) fn read(l: Layout, word: u32, slot: u32) -> u32
-    requires { Holds l × (slot < 8) }
+    requires { slot < 8 }
     ensures { result ≡ count (kind_in l) word slot }
 {
     (word >> place(l, slot)) & l.top
@@ -37,7 +37,7 @@ pub(crate) fn read(l: Layout, word: u32, slot: u32) -> u32
 
 // A counter one higher, unless it stands at its top.
 fn raised(l: Layout, word: u32, slot: u32) -> u32
-    requires { Holds l × (slot < 8) }
+    requires { slot < 8 }
     ensures { result ≡ raise (kind_in l) word slot }
 {
     let off = place(l, slot);
@@ -51,7 +51,6 @@ fn raised(l: Layout, word: u32, slot: u32) -> u32
 
 // One edge counted; N and E are refused.
 pub(crate) fn add_edge(l: Layout, word: u32, side: Side, edge: Base) -> Result<u32, NoBase>
-    requires { Holds l }
     ensures { word_answer result ≡ add_edge_call (kind_in l) word side (code_in edge) }
 {
     let bits = u32::from(edge.bits());
@@ -63,7 +62,6 @@ pub(crate) fn add_edge(l: Layout, word: u32, side: Side, edge: Base) -> Result<u
 
 // A neighbour counted on its side; a missing one, which is E, adds nothing, and N is refused.
 fn with_neighbour(l: Layout, word: u32, side: Side, edge: Base) -> Result<u32, NoBase>
-    requires { Holds l }
     ensures { word_answer result ≡ neighbour_call (kind_in l) word side (code_in edge) }
 {
     match edge {
@@ -74,7 +72,6 @@ fn with_neighbour(l: Layout, word: u32, side: Side, edge: Base) -> Result<u32, N
 
 // Both neighbours counted; where one of them is N, neither.
 pub(crate) fn update(l: Layout, word: u32, front: Base, back: Base) -> Result<u32, NoBase>
-    requires { Holds l }
     ensures { word_answer result ≡ update_call (kind_in l) word (code_in front) (code_in back) }
 {
     let now = with_neighbour(l, word, Side::Front, front)?;
@@ -83,14 +80,13 @@ pub(crate) fn update(l: Layout, word: u32, front: Base, back: Base) -> Result<u3
 
 // Whether a side retains a base's edge.
 fn retains(l: Layout, word: u32, side: Side, bits: u32, cutoff: u32) -> bool
-    requires { Holds l × (bits < 4) }
+    requires { bits < 4 }
     ensures { result ≡ leb cutoff (count (kind_in l) word (slot_of side bits)) }
 {
     cutoff <= read(l, word, slot(side, bits))
 }
 
 pub(crate) fn tally(l: Layout, word: u32, side: Side, cutoff: u32) -> Tally
-    requires { Holds l }
     ensures { Tallied (kind_in l) cutoff word side result.edges result.codes }
 {
     let mut tally = Tally { edges: 0, codes: 0 };
@@ -105,7 +101,6 @@ pub(crate) fn tally(l: Layout, word: u32, side: Side, cutoff: u32) -> Tally
 
 // E for no retained edge, the base for one, N for more.
 pub(crate) fn edge_at(l: Layout, word: u32, side: Side, cutoff: u32) -> Base
-    requires { Holds l }
     ensures { code_in result ≡ edge_at (kind_in l) cutoff word side }
 {
     let tally = tally(l, word, side, cutoff);

@@ -6,11 +6,11 @@ use Rattle.state.proofs.packing.raised.Goals as goal
 pub returns-then-cur-l : goal.returns-then-cur-l
 returns-then-cur-l c =
     let p = c.place-off in
-    more_laid c.args.l c.requires.0 c.args.slot c.requires.1 c.args.word c.ranges.word.fits
+    more_laid c.args.l c.args.slot c.requires c.args.word c.ranges.word.fits
     p.result p.ensures.0 c.if-cur-l.true
 
 pub returns : goal.returns
 returns c =
     let p = c.place-off in
-    full_laid c.args.l c.requires.0 c.args.slot c.requires.1 c.args.word c.ranges.word.fits
+    full_laid c.args.l c.args.slot c.requires c.args.word c.ranges.word.fits
     p.result p.ensures.0 c.if-cur-l.false

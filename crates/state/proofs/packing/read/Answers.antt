@@ -3,4 +3,4 @@ use Rattle.state.proofs.Laid.{read_laid}
 use Rattle.state.proofs.packing.read.Goals as goal
 
 pub returns : goal.returns
-returns c = rw c.place.ensures.0 (read_laid c.args.l c.requires.0 c.args.slot c.requires.1 c.args.word)
+returns c = rw c.place.ensures.0 (read_laid c.args.l c.args.slot c.requires c.args.word)
