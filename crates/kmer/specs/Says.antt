@@ -28,10 +28,6 @@ abbrev pub says : {A B : Type 0} → (A → B) → Result A KmerError → Answer
 says f (Ok a) = gives (f a)
 says f (Err e) = refusal e
 
--- The answer of a call that has only to say that it was not refused.
-abbrev pub done : Answer (Unit {0})
-done = gives tt
-
 -- The number in an answer; zero in a refusal.
 abbrev pub number_in : Answer ℕ → ℕ
 number_in (gives n) = n

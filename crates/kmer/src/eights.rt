@@ -4,6 +4,7 @@ ghost use Rattle.dna.specs.Letters.{first_bad};
 ghost use Rattle.kmer.specs.Packing.{valid_packed, bytes_in, Packs};
 
 use super::Kmer;
+use super::length::Length;
 
 // A k-mer, and a number that is 0 only where all its letters are bases.
 #[derive(Clone, Copy)]
@@ -55,18 +56,18 @@ fn strange(x: u64) -> u64
 }
 
 // Eight letters or more: some of the first eight, so many that a multiple of eight is left, and then eight at a time.
-pub(crate) fn pack(k: usize, seq: &[u8]) -> Packed
-    requires { (8 ≤ k) × (k ≤ 63) × (k ≤ length seq.now) }
-    ensures { Packs (take k seq.now) result }
+pub(crate) fn pack(k: Length, seq: &[u8]) -> Packed
+    requires { (8 ≤ k.bases) × (k.bases ≤ length seq.now) }
+    ensures { Packs (take k.bases seq.now) result }
 {
-    let first = (k - 1) % 8 + 1;
+    let first = (k.bases - 1) % 8 + 1;
     let x = eight(seq, 0);
     let mut high = 0;
     let mut low = codes(x) >> (16 - 2 * first);
     let mut found = strange(x);
     let mut i = first;
-    // A `for` over `(first..k).step_by(8)` takes a tenth longer.
-    while i < k {
+    // A `for` over `(first..k.bases).step_by(8)` takes a tenth longer.
+    while i < k.bases {
         let y = eight(seq, i);
         high = (high << 16) | (low >> 48);
         low = (low << 16) | codes(y);

@@ -7,16 +7,17 @@ ghost use Rattle.kmer.specs.Bits.{four_at};
 ghost use Rattle.kmer.specs.Calls.{letters_call};
 ghost use Rattle.kmer.specs.Says.{value_of, Spells};
 
+use super::length::Length;
 use super::{Kmer, KmerError, bases, quads, verdict};
 use dna::Base;
 
 // The first n letters, one by one.
-fn leading(k: usize, x: Kmer, n: usize, out: &mut [u8])
-    requires { (k ≤ 63) × (n ≤ k) × (n ≤ length out.old) }
-    ensures { Built (letters k (value_of x)) out.old out.new n }
+fn leading(k: Length, x: Kmer, n: usize, out: &mut [u8])
+    requires { (n ≤ k.bases) × (n ≤ length out.old) }
+    ensures { Built (letters k.bases (value_of x)) out.old out.new n }
 {
     for (i, cell) in out[..n].iter_mut().enumerate() {
-        *cell = Base::from_bits(bases::digit(x, k - 1 - i)).to_ascii();
+        *cell = Base::from_bits(bases::digit(x, k.bases - 1 - i)).to_ascii();
     }
 }
 
@@ -42,16 +43,17 @@ fn put_quad(quad: u32, at: usize, out: &mut [u8])
 }
 
 // The K mod 4 leading letters one by one, then four letters for each byte.
-fn write(k: usize, x: Kmer, out: &mut [u8])
-    requires { (k ≤ 63) × (k ≤ length out.old) }
-    ensures { out.new ≡ over (letters k (value_of x)) out.old }
+fn write(k: Length, x: Kmer, out: &mut [u8])
+    requires { k.bases ≤ length out.old }
+    ensures { out.new ≡ over (letters k.bases (value_of x)) out.old }
 {
-    leading(k, x, k % 4, out);
+    let first = k.bases % 4;
+    leading(k, x, first, out);
     let quads = quads::table();
-    let count = k / 4;
+    let count = k.bases / 4;
     for i in 0..count {
         let byte = byte_of(x, count - 1 - i);
-        put_quad(quads[usize::from(byte)], k % 4 + 4 * i, out);
+        put_quad(quads[usize::from(byte)], first + 4 * i, out);
     }
 }
 
@@ -61,11 +63,11 @@ impl Kmer {
     pub fn append_ascii(self, k: usize, out: &mut [u8]) -> Result<usize, KmerError>
         ensures { Spells result out.new (letters_call k (value_of self) out.old) }
     {
-        verdict::verdict(k, self)?;
-        if out.len() < k {
+        let k = verdict::verdict(k, self)?;
+        if out.len() < k.bases {
             return Err(KmerError::NoRoom);
         }
         write(k, self, out);
-        Ok(k)
+        Ok(k.bases)
     }
 }

@@ -6,6 +6,7 @@ ghost use Rattle.kmer.specs.Says.{kmer_of};
 
 mod bases;
 mod eights;
+mod length;
 mod letters;
 mod order;
 mod pack;

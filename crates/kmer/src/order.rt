@@ -37,7 +37,7 @@ impl Kmer {
     pub fn canonical(self, k: usize) -> Result<Kmer, KmerError>
         ensures { Answers result (canon_call k (value_of self)) }
     {
-        verdict::verdict(k, self)?;
+        let k = verdict::verdict(k, self)?;
         let turned = reverse::reversed(k, self);
         if turned.is_less(self) {
             Ok(turned)
@@ -50,7 +50,7 @@ impl Kmer {
     pub fn is_canonical(self, k: usize) -> Result<bool, KmerError>
         ensures { says (λ t. t) result ≡ is_canon_call k (value_of self) }
     {
-        verdict::verdict(k, self)?;
+        let k = verdict::verdict(k, self)?;
         let turned = reverse::reversed(k, self);
         Ok(!turned.is_less(self))
     }

@@ -7,6 +7,7 @@ ghost use Rattle.kmer.specs.Calls.{pack_bases, pack_call, words_call};
 ghost use Rattle.kmer.specs.Says.{says, Answers};
 
 use super::eights::Packed;
+use super::length::Length;
 use super::{Kmer, KmerError, eights, verdict, words};
 
 // The first letter that is no base is refused.
@@ -45,14 +46,14 @@ fn word_of(seq: &[u8]) -> u64
 }
 
 // The first K letters, read by their bits; fewer than eight are left to the test letter by letter.
-fn pack(k: usize, seq: &[u8]) -> Packed
-    requires { (k ≤ 63) × (k ≤ length seq.now) }
-    ensures { Packs (take k seq.now) result }
+fn pack(k: Length, seq: &[u8]) -> Packed
+    requires { k.bases ≤ length seq.now }
+    ensures { Packs (take k.bases seq.now) result }
 {
-    if k < 8 {
+    if k.bases < 8 {
         return Packed {
             kmer: Kmer {
-                words: [word_of(&seq[..k]), 0],
+                words: [word_of(&seq[..k.bases]), 0],
             },
             strange: 1,
         };
@@ -66,14 +67,12 @@ impl Kmer {
     pub fn from_ascii(k: usize, seq: &[u8]) -> Result<Kmer, KmerError>
         ensures { Answers result (pack_call k seq.now) }
     {
-        if !verdict::supported(k) {
-            return Err(KmerError::UnsupportedK(k));
-        }
-        if seq.len() < k {
+        let k = Length::new(k)?;
+        if seq.len() < k.bases {
             return Err(KmerError::TooShort(seq.len()));
         }
         let p = pack(k, seq);
-        letters_verdict(p.strange, &seq[..k])?;
+        letters_verdict(p.strange, &seq[..k.bases])?;
         Ok(p.kmer)
     }
 

@@ -1,9 +1,10 @@
 // The reverse complement.
-ghost use Rattle.std.specs.Prelude.{◌≡◌, ◌+◌, ◌^◌, ◌≤◌};
+ghost use Rattle.std.specs.Prelude.{◌≡◌, ◌+◌, ◌^◌};
 ghost use Rattle.kmer.specs.Kmer.{rc};
 ghost use Rattle.kmer.specs.Calls.{reverse_call};
 ghost use Rattle.kmer.specs.Says.{value_of, kmer_of, Answers};
 
+use super::length::Length;
 use super::{Kmer, KmerError, verdict};
 
 // The 32 bases of a word, the last first: neighbours change places, then pairs, then bytes. The contract says it of the
@@ -17,10 +18,10 @@ fn flip(word: u64) -> u64
 }
 
 // Both words flipped and complemented, then moved down by the bits that K leaves free.
-pub(crate) fn reversed(k: usize, x: Kmer) -> Kmer
-    requires { (1 ≤ k) × (k ≤ 63) }
-    ensures { result ≡ kmer_of (rc k (value_of x)) }
+pub(crate) fn reversed(k: Length, x: Kmer) -> Kmer
+    ensures { result ≡ kmer_of (rc k.bases (value_of x)) }
 {
+    let k = k.bases;
     let high = !flip(x.words[0]);
     if k <= 32 {
         Kmer {
@@ -39,7 +40,7 @@ impl Kmer {
     pub fn reverse_complement(self, k: usize) -> Result<Kmer, KmerError>
         ensures { Answers result (reverse_call k (value_of self)) }
     {
-        verdict::verdict(k, self)?;
+        let k = verdict::verdict(k, self)?;
         Ok(reversed(k, self))
     }
 }

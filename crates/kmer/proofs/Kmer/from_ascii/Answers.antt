@@ -20,6 +20,6 @@ none_bad s (place ∷ byte) e = cc
 pub returns : goal.returns
 unfolding pack_call with_letters
 returns c =
-    let s = take c.args.k c.args.seq.now in
+    let s = take c.in_ok-k.k.bases c.args.seq.now in
     let bases = no_bad_bases 0 s (none_bad s (first_bad 0 s) c.in_ok-letters_verdict.ensures) in
     rw (c.pack-p.ensures.kmer, valid_packed_lem s bases) (grind arith)

@@ -12,7 +12,7 @@ use Rattle.kmer.proofs.Kmer.is_canonical.Goals as goal
 
 pub returns : goal.returns
 returns c =
-    let a = c.args in
-    let x = value_of a.self in
-    let t = c.is_less.ensures ∙ ap (λ (n : ℕ). ltb n x) (value_back (rc a.k x) c.reversed-turned.ensures) in
-    rw (ap not t ∙ canon_test a.k x) (grind arith)
+    let k = c.in_ok-k.k.bases in
+    let x = value_of c.args.self in
+    let t = c.is_less.ensures ∙ ap (λ (n : ℕ). ltb n x) (value_back (rc k x) c.reversed-turned.ensures) in
+    rw (ap not t ∙ canon_test k x) (grind arith)

@@ -8,7 +8,7 @@ loop-i-init c =
     let read = c.eight-x.ensures in (
       omega arith,
       omega arith,
-      held_first c.args.seq.now ((c.args.k - 1) % 8 + 1)
+      held_first c.args.seq.now ((c.args.k.bases - 1) % 8 + 1)
           (record { bytes = read; packed = c.codes.ensures; clean = c.strange-found.ensures })
           (omega arith) (omega arith),
     )
@@ -27,4 +27,4 @@ loop-i-preserved c =
 pub returns : goal.returns
 returns c =
     let l = c.loop-i in
-    held_all c.args.seq.now l.i l.low l.high l.found l.invariant.2 c.args.k (omega arith)
+    held_all c.args.seq.now l.i l.low l.high l.found l.invariant.2 c.args.k.bases (omega arith)

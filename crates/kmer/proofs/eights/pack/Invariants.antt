@@ -5,7 +5,7 @@ use Rattle.kmer.proofs.Groups.{Held}
 use Rattle.kmer.proofs.eights.pack.Given as goal
 
 abbrev pub invariant-loop-i : goal.invariant-loop-i
-invariant-loop-i l = (l.i ≤ l.k) × (l.i % 8 ≡ l.k % 8) × Held l.seq l.i l.low l.high l.found
+invariant-loop-i l = (l.i ≤ l.k.bases) × (l.i % 8 ≡ l.k.bases % 8) × Held l.seq l.i l.low l.high l.found
 
 abbrev pub decreases-loop-i : goal.decreases-loop-i
-decreases-loop-i l = l.k - l.i
+decreases-loop-i l = l.k.bases - l.i

@@ -15,6 +15,6 @@ loop-i-preserved c =
     let a = c.args in
     let l = c.loop-i in
     let v = value_of a.x in
-    let h : l.i < a.k = omega (arith, length-take a.n a.out.now) in
-    built_more (letters a.k v) _ l.cell-items l.i l.invariant c.to_ascii.result (simp length_letters h) (omega arith)
-    (c.to_ascii.ensures ∙ ap letter_of (c.from_bits.ensures ∙ omega (arith, c.digit.ensures)) ∙ sym (letter_at a.k v l.i h))
+    let h : l.i < a.k.bases = omega (arith, length-take a.n a.out.now) in
+    built_more (letters a.k.bases v) _ l.cell-items l.i l.invariant c.to_ascii.result (simp length_letters h) (omega arith)
+    (c.to_ascii.ensures ∙ ap letter_of (c.from_bits.ensures ∙ omega (arith, c.digit.ensures)) ∙ sym (letter_at a.k.bases v l.i h))

@@ -5,4 +5,4 @@ use Rattle.kmer.specs.Says.{value_of}
 use Rattle.kmer.proofs.letters.leading.Given as goal
 
 abbrev pub invariant-loop-i : goal.invariant-loop-i
-invariant-loop-i l = Built (letters l.k (value_of l.x)) l.initial.cell-items l.cell-items l.i
+invariant-loop-i l = Built (letters l.k.bases (value_of l.x)) l.initial.cell-items l.cell-items l.i

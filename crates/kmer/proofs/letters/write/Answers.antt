@@ -21,7 +21,7 @@ loop-i-preserved c =
     let byte = c.byte_of-byte in
     let l = c.loop-i in
     let a = c.args in
-    let k = a.k in
+    let k = a.k.bases in
     let j = k / 4 - 1 - l.i in
     let at = k % 4 + 4 * l.i in
     let quad =
@@ -36,5 +36,5 @@ returns c =
     let l = c.loop-i in
     let a = c.args in
     let b = l.invariant a.out.now (search rules) c.leading.ensures in
-    let n = length_letters a.k (value_of a.x) in
-    built_all (letters a.k (value_of a.x)) a.out.now l.out _ b (omega arith)
+    let n = length_letters a.k.bases (value_of a.x) in
+    built_all (letters a.k.bases (value_of a.x)) a.out.now l.out _ b (omega arith)

@@ -10,5 +10,5 @@ use Rattle.kmer.proofs.letters.write.Given as goal
 
 abbrev pub invariant-loop-i : goal.invariant-loop-i
 invariant-loop-i l =
-    (s : List ℕ) → l.k ≤ length s → Built (letters l.k (value_of l.x)) s l.initial.out (l.k % 4)
-    → Built (letters l.k (value_of l.x)) s l.out (l.k % 4 + 4 * l.i)
+    (s : List ℕ) → l.fn.k.bases ≤ length s → Built (letters l.fn.k.bases (value_of l.x)) s l.initial.out l.first
+    → Built (letters l.fn.k.bases (value_of l.x)) s l.out (l.fn.k.bases % 4 + 4 * l.i)

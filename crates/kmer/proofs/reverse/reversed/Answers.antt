@@ -16,11 +16,11 @@ pub returns-then-k-le32 : goal.returns-then-k-le32
 returns-then-k-le32 c =
     let a = c.args in
     rw (not-flip _ _ c.flip-high.ensures)
-    (sym (halves_one a.k (get_or a.x.words 0 0) (get_or a.x.words 1 0) (omega arith)))
+    (sym (halves_one a.k.bases (get_or a.x.words 0 0) (get_or a.x.words 1 0) (omega arith)))
 
 pub returns-else-k-le32 : goal.returns-else-k-le32
 returns-else-k-le32 c =
     let a = c.args in
     let f : Fits w64 (get_or c.args.x.words 0 0) = search rules in
     rw (not-flip _ _ c.flip-high.ensures, not-flip _ _ c.flip-low.ensures)
-    (sym (halves_two a.k (get_or a.x.words 0 0) (get_or a.x.words 1 0) (omega arith) (omega arith) f.fits))
+    (sym (halves_two a.k.bases (get_or a.x.words 0 0) (get_or a.x.words 1 0) (omega arith) (omega arith) f.fits))

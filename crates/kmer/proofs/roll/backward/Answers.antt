@@ -15,7 +15,7 @@ returns-then-shift-lt64 c =
     let f : Fits w64 (get_or c.args.x.words 0 0) = search rules in
     rw c.push_high-low.ensures
     (sym
-    (rolled_down_low c.args.k lo hi c.args.bits f.fits (omega arith) c.if-shift-lt64.true (omega arith) c.requires.3))
+    (rolled_down_low c.args.k.bases lo hi c.args.bits f.fits (omega arith) c.if-shift-lt64.true (omega arith) c.requires.1))
 
 pub returns-else-shift-lt64 : goal.returns-else-shift-lt64
 returns-else-shift-lt64 c =
@@ -24,4 +24,4 @@ returns-else-shift-lt64 c =
     let f : Fits w64 (get_or c.args.x.words 0 0) = search rules in
     rw c.push_high-low.ensures
     (sym
-    (rolled_down_high c.args.k lo hi c.args.bits f.fits (omega arith) c.if-shift-lt64.false (omega arith) c.requires.3))
+    (rolled_down_high c.args.k.bases lo hi c.args.bits f.fits (omega arith) c.if-shift-lt64.false (omega arith) c.requires.1))

@@ -14,4 +14,4 @@ returns c =
     let f : Fits w64 (get_or c.args.x.words 0 0) = search rules in
     rw (c.push_low.ensures, c.low_mask.ensures, c.push_low-2.ensures, c.high_mask.ensures)
     (sym
-    (rolled_up a.k (get_or a.x.words 0 0) (get_or a.x.words 1 0) a.bits (omega arith) f.fits (omega arith)))
+    (rolled_up a.k.bases (get_or a.x.words 0 0) (get_or a.x.words 1 0) a.bits (omega arith) f.fits (omega arith)))

@@ -13,7 +13,7 @@ returns-then-x-low_mask c =
     let a = c.args in
     let f : Fits w64 (get_or c.args.x.words 0 0) = search rules in
     rw c.high_mask.ensures
-    (below_high a.k (get_or a.x.words 0 0) (get_or a.x.words 1 0) f.fits
+    (below_high a.k.bases (get_or a.x.words 0 0) (get_or a.x.words 1 0) f.fits
     (rw c.low_mask.ensures at c.if-x-low_mask.true))
 
 pub returns-else-x-low_mask : goal.returns-else-x-low_mask
@@ -23,5 +23,5 @@ returns-else-x-low_mask c =
     lt-leb _ _ c.if-x-low_mask.false
     ∙ sym
     (le-ltb _ _
-    (above_low a.k (get_or a.x.words 0 0) (get_or a.x.words 1 0) f.fits
+    (above_low a.k.bases (get_or a.x.words 0 0) (get_or a.x.words 1 0) f.fits
     (rw c.low_mask.ensures at c.if-x-low_mask.false)))
