@@ -1,9 +1,9 @@
 // A supported K, and the bits that its k-mers may use.
 ghost use Rattle.std.specs.Prelude.{◌≡◌, ◌-◌, ◌^◌, ◌≤◌};
+ghost use Rattle.dna.specs.Answer.{gives};
 ghost use Rattle.kmer.specs.Bits.{low_bits, high_bits};
 ghost use Rattle.kmer.specs.Calls.{with_k};
 ghost use Rattle.kmer.specs.Says.{says};
-ghost use Rattle.dna.specs.Answer.{gives};
 
 use super::KmerError;
 
