@@ -34,16 +34,16 @@ use Rattle.judging.specs.Standing.{row_to, Sofar, Testing}
 -- ---- the k-mers of a label, one after the other
 
 module _ (K : ℕ) (label : List ℕ) where
-  row_next : (x o : ℕ) → tally x (row_to K label (suc o)) ≡ tally x (row_to K label o) + cond
-      (eqb (canon K (window K label o)) x) 1 0
+  row_next : (x o : ℕ) → tally x (row_to K label (suc o)) ≡ tally x (row_to K label o)
+      + cond (eqb (canon K (window K label o)) x) 1 0
   unfolding tally
   row_next x o =
       ap (λ (ws : List ℕ). tally x (map (canon K) ws)) (windows_snoc K o label)
       ∙ ap (tally x) (map-append (canon K) (windows_from K o label) (window K label o ∷ []))
       ∙ tally_append x (row_to K label o) (canon K (window K label o) ∷ []) ∙ omega arith
 
-  row_one : (o : ℕ) → let c = canon K (window K label o) in tally c (row_to K label (suc o)) ≡ suc
-      (tally c (row_to K label o))
+  row_one : (o : ℕ) → let c = canon K (window K label o) in tally c (row_to K label (suc o))
+      ≡ suc (tally c (row_to K label o))
   row_one o =
       let c = canon K (window K label o) in
       row_next c o ∙ rw (eq-eqb c c refl) (omega arith)
@@ -124,8 +124,8 @@ module _ (K : ℕ) (ks : List ℕ) (es : List Ends) (label : List ℕ) (done : L
         stood_next : Stood ks after (λ x. tally x (row_to K label (suc o)) + occurrences K x done)
         stood_next x s = ⊎_elim same other (true_or_false (eqb c x))
           where
-            same : eqb c x ≡ true → visited (visits after) (rank ks x) ≡ ltb 0
-                (tally x (row_to K label (suc o)) + occurrences K x done)
+            same : eqb c x ≡ true → visited (visits after) (rank ks x)
+                ≡ ltb 0 (tally x (row_to K label (suc o)) + occurrences K x done)
             same q =
                 let e : c ≡ x = eqb-true c x q in
                 subst (λ (y : ℕ). visited (visits after) (rank ks y)
@@ -134,8 +134,8 @@ module _ (K : ℕ) (ks : List ℕ) (es : List Ends) (label : List ℕ) (done : L
                 ∙ sym (lt-ltb 0 (tally c (row_to K label (suc o)) + occurrences K c done)
                 (omega (arith, row_one K label o))))
 
-            other : eqb c x ≡ false → visited (visits after) (rank ks x) ≡ ltb 0
-                (tally x (row_to K label (suc o)) + occurrences K x done)
+            other : eqb c x ≡ false → visited (visits after) (rank ks x)
+                ≡ ltb 0 (tally x (row_to K label (suc o)) + occurrences K x done)
             other q =
                 let n : rank ks x ≡ rank ks c → ⊥ = λ z. eqb-false c x q
                 (same_rank ks c x (live_stored c now_live) s (sym z)) in

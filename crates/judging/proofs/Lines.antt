@@ -147,8 +147,8 @@ module _ (K : ℕ) (text : List ℕ) where
       abbrev test : Bool
       test = eqb (get_or (part text at (r - at)) 0 0) 62 && leb K (length label) && is_plain label
 
-      held_two : is_held (listing K (drop at text)) ≡ is_held
-          (cond test (and_then label (listing K (drop (e + 1) text))) no_list)
+      held_two : is_held (listing K (drop at text))
+          ≡ is_held (cond test (and_then label (listing K (drop (e + 1) text))) no_list)
       unfolding labels_among
       held_two = ap (λ (ls : List (List ℕ)). is_held (labels_among K ls)) two_lines
 
@@ -166,8 +166,8 @@ module _ (K : ℕ) (text : List ℕ) where
             rw q (sym c)
 
         pub held_no_label : t ≡ false → is_held (listing K (drop at text)) ≡ false
-        held_no_label n = held_two ∙ ap (λ (b : Bool). is_held
-            (cond b (and_then label (listing K (drop (e + 1) text))) no_list)) (test_is ∙ n)
+        held_no_label n = held_two
+            ∙ ap (λ (b : Bool). is_held (cond b (and_then label (listing K (drop (e + 1) text))) no_list)) (test_is ∙ n)
 
         pub held_on : t ≡ true → is_held (listing K (drop at text)) ≡ is_held (listing K (drop (e + 1) text))
         held_on n =

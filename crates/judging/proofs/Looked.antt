@@ -81,8 +81,8 @@ module _ {K : ℕ} {keys ms : List ℕ} (r : Ready K keys ms) (x : Kmer) (l : va
   canon_is : value_of c ≡ canon K (value_of x)
   canon_is = smaller ∙ lesser_canon K x y (value_of x) refl turned
 
-  pub seen_at : {w : ℕ} → f ≡ Ok w → Sees K ks (ends ms) (value_of x)
-      (record { here = x; other = y; mark = get_or ms w 0 })
+  pub seen_at : {w : ℕ} → f ≡ Ok w
+      → Sees K ks (ends ms) (value_of x) (record { here = x; other = y; mark = get_or ms w 0 })
   unfolding retained
   seen_at {w} e =
       let p : (stored ks (canon K (value_of x)) ≡ true) × (rank ks (canon K (value_of x)) ≡ w) =

@@ -39,8 +39,9 @@ leads_by K x s y = ltb (end_in x.mark s) 4 && eqb (after_of K x s) y
 
 -- One edge leads from x to y and, on the other strand, back.
 abbrev pub step_by : ℕ → Seen → Seen → Bool
-step_by K x y = leads_by K x (exit_of x) (value_of y.here) && leads_by K (turned_of y) (opposite (exit_of y))
-    (value_of x.other)
+step_by K x y =
+    leads_by K x (exit_of x) (value_of y.here)
+    && leads_by K (turned_of y) (opposite (exit_of y)) (value_of x.other)
 
 -- The smaller of two k-mers.
 abbrev pub lesser_of : Kmer → Kmer → ℕ

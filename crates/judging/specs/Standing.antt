@@ -32,8 +32,9 @@ preceded label o b = cond (eqb o 0) true (eqb b (3 - code_of (get_or label (o - 
 
 -- The edges on the sides of window o, which is left by side s, are those of its neighbours in the label.
 abbrev pub joined_by : ℕ → List ℕ → ℕ → Side → (Side → ℕ) → Bool
-joined_by K label o s edges = followed K label o (leaving s (edges s)) && preceded label o
-    (leaving (opposite s) (edges (opposite s)))
+joined_by K label o s edges =
+    followed K label o (leaving s (edges s))
+    && preceded label o (leaving (opposite s) (edges (opposite s)))
 
 -- ---- what is found
 
@@ -56,13 +57,14 @@ pub record Marked (K : ℕ) (keys ms : List ℕ) (c : ℕ) (r : Bool) (after : L
 -- A k-mer is tested: where it stands, and its edges.
 pub record TestsKmer (K : ℕ) (keys ms label : List ℕ) (o c : ℕ) (s : Side) (r : Tested) (after : List ℕ) : Type 0 where
   pub placed : Marked K keys ms c (is_misplaced r) after
-  pub joined : is_misplaced r ≡ false → is_bad r ≡ not
-      (joined_by K label o s (edge (ends ms) (rank (keys_for ms keys) c)))
+  pub joined : is_misplaced r ≡ false
+      → is_bad r ≡ not (joined_by K label o s (edge (ends ms) (rank (keys_for ms keys) c)))
 
 -- The edge by which window o is left, and that by which it is entered.
 abbrev pub left : ℕ → List ℕ → List Ends → List ℕ → ℕ → Bool
-left K ks es label o = let x = window K label o in followed K label o
-    (leaving (exit K ks es x) (retained K ks es x (exit K ks es x)))
+left K ks es label o =
+    let x = window K label o in
+    followed K label o (leaving (exit K ks es x) (retained K ks es x (exit K ks es x)))
 
 abbrev pub entered : ℕ → List ℕ → List Ends → List ℕ → ℕ → Bool
 entered K ks es label o =
@@ -143,8 +145,8 @@ pub record Testing (K : ℕ) (keys ms₀ label ms : List ℕ) (o : ℕ) : Type 0
 -- What is told of the steps up to window o, and what is left: the step to it, and those behind it.
 pub record Joining (K : ℕ) (ks : List ℕ) (es : List Ends) (label : List ℕ) (o : ℕ) (bad : Bool) : Type 0 where
   pub going : o + K ≤ length label
-      → bad_step K ks es (windows_of K label) ≡
-      (bad || (not (entered K ks es label o) || bad_step K ks es (row_from K label o)))
+      → bad_step K ks es (windows_of K label)
+      ≡ (bad || (not (entered K ks es label o) || bad_step K ks es (row_from K label o)))
   pub gone : length label < o + K → bad_step K ks es (windows_of K label) ≡ bad
 
 -- Of the labels before label i a first one is found; or none is, and the rest decide.
@@ -158,7 +160,7 @@ pub record Placing (K : ℕ) (keys ms₀ text ms : List ℕ) (done : List (List 
   pub kept : ends ms ≡ ends ms₀
   pub passing : Passing K text (breaks2 K (keys_for ms₀ keys) (ends ms₀)) done i at
   pub stood : Stood (keys_for ms₀ keys) ms (stands_in K done)
-  pub split : (x : ℕ) → stands_in K (labels_in (listing K text)) x ≡ stands_in K done x + stands_in K
-      (labels_in (listing K (drop at text))) x
+  pub split : (x : ℕ) → stands_in K (labels_in (listing K text)) x
+      ≡ stands_in K done x + stands_in K (labels_in (listing K (drop at text))) x
   pub noted : Noted bad i (first_of (breaks3 K (keys_for ms₀ keys) (ends ms₀)) [] (labels_in (listing K text)))
       (first_of (breaks3 K (keys_for ms₀ keys) (ends ms₀)) done (labels_in (listing K (drop at text))))
