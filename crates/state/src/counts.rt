@@ -13,7 +13,7 @@ impl EdgeFrequency {
     pub fn add_edge(self, side: Side, edge: Base) -> Result<EdgeFrequency, NoBase>
         ensures { counting_answer result ≡ add_edge_call four_bits self.packed side (code_in edge) }
     {
-        let packed = packing::add_edge(FOUR_BITS, self.packed, side, edge)?;
+        let packed = FOUR_BITS.add_edge(self.packed, side, edge)?;
         Ok(EdgeFrequency { packed })
     }
 
@@ -21,7 +21,7 @@ impl EdgeFrequency {
     pub fn update_edges(self, front: Base, back: Base) -> Result<EdgeFrequency, NoBase>
         ensures { counting_answer result ≡ update_call four_bits self.packed (code_in front) (code_in back) }
     {
-        let packed = packing::update(FOUR_BITS, self.packed, front, back)?;
+        let packed = FOUR_BITS.update(self.packed, front, back)?;
         Ok(EdgeFrequency { packed })
     }
 
@@ -29,14 +29,14 @@ impl EdgeFrequency {
     pub fn edge_count(self, side: Side, cutoff: u32) -> u32
         ensures { result ≡ edge_count four_bits cutoff self.packed side }
     {
-        packing::tally(FOUR_BITS, self.packed, side, cutoff).edges
+        FOUR_BITS.tally(self.packed, side, cutoff).edges
     }
 
     // E for no retained edge, the base for one, N for more.
     pub fn edge_at(self, side: Side, cutoff: u32) -> Base
         ensures { code_in result ≡ edge_at four_bits cutoff self.packed side }
     {
-        packing::edge_at(FOUR_BITS, self.packed, side, cutoff)
+        FOUR_BITS.edge_at(self.packed, side, cutoff)
     }
 
     // How often a base was counted on a side; bits above 3 are refused.
@@ -46,7 +46,7 @@ impl EdgeFrequency {
         if base_bits > 3 {
             return Err(NoBase);
         }
-        Ok(packing::read(FOUR_BITS, self.packed, packing::slot(side, base_bits)))
+        Ok(FOUR_BITS.read(self.packed, packing::slot(side, base_bits)))
     }
 
     pub fn is_branching_side(self, side: Side, cutoff: u32) -> bool

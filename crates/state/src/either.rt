@@ -4,7 +4,7 @@ ghost use Rattle.dna.specs.Calls.{code_in};
 ghost use Rattle.state.specs.Counted.{answers_for, edge_at, update_call};
 ghost use Rattle.state.specs.Says.{kind_of, word_answer};
 
-use super::{EdgeKind, FOUR_BITS, NoBase, PRESENCE, Side, packing};
+use super::{EdgeKind, FOUR_BITS, NoBase, PRESENCE, Side};
 use dna::Base;
 
 // Both neighbours counted or marked; where one of them is N, neither. E is a missing one and adds nothing.
@@ -12,8 +12,8 @@ pub fn update_edges(kind: EdgeKind, word: u32, front: Base, back: Base) -> Resul
     ensures { word_answer result ≡ update_call (kind_of kind) word (code_in front) (code_in back) }
 {
     match kind {
-        EdgeKind::Counted => packing::update(FOUR_BITS, word, front, back),
-        EdgeKind::Presence => packing::update(PRESENCE, word, front, back),
+        EdgeKind::Counted => FOUR_BITS.update(word, front, back),
+        EdgeKind::Presence => PRESENCE.update(word, front, back),
     }
 }
 
@@ -33,7 +33,7 @@ pub fn edge_of(kind: EdgeKind, word: u32, side: Side, cutoff: u32) -> Base
     ensures { code_in result ≡ edge_at (kind_of kind) cutoff word side }
 {
     match kind {
-        EdgeKind::Counted => packing::edge_at(FOUR_BITS, word, side, cutoff),
-        EdgeKind::Presence => packing::edge_at(PRESENCE, word, side, cutoff),
+        EdgeKind::Counted => FOUR_BITS.edge_at(word, side, cutoff),
+        EdgeKind::Presence => PRESENCE.edge_at(word, side, cutoff),
     }
 }

@@ -19,94 +19,96 @@ pub(crate) fn slot(side: Side, bits: u32) -> u32
     }
 }
 
-// The bit at which a counter starts.
-fn place(l: Layout, slot: u32) -> u32
-    requires { slot < 8 }
-    ensures { (result ≡ l.first + l.width * slot) × (result < 32) }
-{
-    l.first + l.width * slot
-}
-
-// The count of a counter.
-pub(crate) fn read(l: Layout, word: u32, slot: u32) -> u32
-    requires { slot < 8 }
-    ensures { result ≡ count (kind_in l) word slot }
-{
-    (word >> place(l, slot)) & l.top
-}
-
-// A counter one higher, unless it stands at its top.
-fn raised(l: Layout, word: u32, slot: u32) -> u32
-    requires { slot < 8 }
-    ensures { result ≡ raise (kind_in l) word slot }
-{
-    let off = place(l, slot);
-    let mask = l.top << off;
-    let cur = (word & mask) >> off;
-    if cur < l.top {
-        return (word & !mask) | ((cur + 1) << off);
+impl Layout {
+    // The bit at which a counter starts.
+    fn place(self, slot: u32) -> u32
+        requires { slot < 8 }
+        ensures { (result ≡ self.first + self.width * slot) × (result < 32) }
+    {
+        self.first + self.width * slot
     }
-    word
-}
 
-// One edge counted; N and E are refused.
-pub(crate) fn add_edge(l: Layout, word: u32, side: Side, edge: Base) -> Result<u32, NoBase>
-    ensures { word_answer result ≡ add_edge_call (kind_in l) word side (code_in edge) }
-{
-    let bits = u32::from(edge.bits());
-    if bits > 3 {
-        return Err(NoBase);
+    // The count of a counter.
+    pub(crate) fn read(self, word: u32, slot: u32) -> u32
+        requires { slot < 8 }
+        ensures { result ≡ count (kind_in self) word slot }
+    {
+        (word >> self.place(slot)) & self.top
     }
-    Ok(raised(l, word, slot(side, bits)))
-}
 
-// A neighbour counted on its side; a missing one, which is E, adds nothing, and N is refused.
-fn with_neighbour(l: Layout, word: u32, side: Side, edge: Base) -> Result<u32, NoBase>
-    ensures { word_answer result ≡ neighbour_call (kind_in l) word side (code_in edge) }
-{
-    match edge {
-        Base::E => Ok(word),
-        _ => add_edge(l, word, side, edge),
+    // A counter one higher, unless it stands at its top.
+    fn raised(self, word: u32, slot: u32) -> u32
+        requires { slot < 8 }
+        ensures { result ≡ raise (kind_in self) word slot }
+    {
+        let off = self.place(slot);
+        let mask = self.top << off;
+        let cur = (word & mask) >> off;
+        if cur < self.top {
+            return (word & !mask) | ((cur + 1) << off);
+        }
+        word
     }
-}
 
-// Both neighbours counted; where one of them is N, neither.
-pub(crate) fn update(l: Layout, word: u32, front: Base, back: Base) -> Result<u32, NoBase>
-    ensures { word_answer result ≡ update_call (kind_in l) word (code_in front) (code_in back) }
-{
-    let now = with_neighbour(l, word, Side::Front, front)?;
-    with_neighbour(l, now, Side::Back, back)
-}
+    // One edge counted; N and E are refused.
+    pub(crate) fn add_edge(self, word: u32, side: Side, edge: Base) -> Result<u32, NoBase>
+        ensures { word_answer result ≡ add_edge_call (kind_in self) word side (code_in edge) }
+    {
+        let bits = u32::from(edge.bits());
+        if bits > 3 {
+            return Err(NoBase);
+        }
+        Ok(self.raised(word, slot(side, bits)))
+    }
 
-// Whether a side retains a base's edge.
-fn retains(l: Layout, word: u32, side: Side, bits: u32, cutoff: u32) -> bool
-    requires { bits < 4 }
-    ensures { result ≡ leb cutoff (count (kind_in l) word (slot_of side bits)) }
-{
-    cutoff <= read(l, word, slot(side, bits))
-}
-
-pub(crate) fn tally(l: Layout, word: u32, side: Side, cutoff: u32) -> Tally
-    ensures { Tallied (kind_in l) cutoff word side result.edges result.codes }
-{
-    let mut tally = Tally { edges: 0, codes: 0 };
-    for bits in 0..4 {
-        if retains(l, word, side, bits, cutoff) {
-            tally.edges += 1;
-            tally.codes += bits;
+    // A neighbour counted on its side; a missing one, which is E, adds nothing, and N is refused.
+    fn with_neighbour(self, word: u32, side: Side, edge: Base) -> Result<u32, NoBase>
+        ensures { word_answer result ≡ neighbour_call (kind_in self) word side (code_in edge) }
+    {
+        match edge {
+            Base::E => Ok(word),
+            _ => self.add_edge(word, side, edge),
         }
     }
-    tally
-}
 
-// E for no retained edge, the base for one, N for more.
-pub(crate) fn edge_at(l: Layout, word: u32, side: Side, cutoff: u32) -> Base
-    ensures { code_in result ≡ edge_at (kind_in l) cutoff word side }
-{
-    let tally = tally(l, word, side, cutoff);
-    match tally.edges {
-        0 => Base::E,
-        1 => Base::from_bits(tally.codes as u8),
-        _ => Base::N,
+    // Both neighbours counted; where one of them is N, neither.
+    pub(crate) fn update(self, word: u32, front: Base, back: Base) -> Result<u32, NoBase>
+        ensures { word_answer result ≡ update_call (kind_in self) word (code_in front) (code_in back) }
+    {
+        let now = self.with_neighbour(word, Side::Front, front)?;
+        self.with_neighbour(now, Side::Back, back)
+    }
+
+    // Whether a side retains a base's edge.
+    fn retains(self, word: u32, side: Side, bits: u32, cutoff: u32) -> bool
+        requires { bits < 4 }
+        ensures { result ≡ leb cutoff (count (kind_in self) word (slot_of side bits)) }
+    {
+        cutoff <= self.read(word, slot(side, bits))
+    }
+
+    pub(crate) fn tally(self, word: u32, side: Side, cutoff: u32) -> Tally
+        ensures { Tallied (kind_in self) cutoff word side result.edges result.codes }
+    {
+        let mut tally = Tally { edges: 0, codes: 0 };
+        for bits in 0..4 {
+            if self.retains(word, side, bits, cutoff) {
+                tally.edges += 1;
+                tally.codes += bits;
+            }
+        }
+        tally
+    }
+
+    // E for no retained edge, the base for one, N for more.
+    pub(crate) fn edge_at(self, word: u32, side: Side, cutoff: u32) -> Base
+        ensures { code_in result ≡ edge_at (kind_in self) cutoff word side }
+    {
+        let tally = self.tally(word, side, cutoff);
+        match tally.edges {
+            0 => Base::E,
+            1 => Base::from_bits(tally.codes as u8),
+            _ => Base::N,
+        }
     }
 }

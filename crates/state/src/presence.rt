@@ -5,7 +5,7 @@ ghost use Rattle.state.specs.Counted.{presence, edge_at, edge_count, is_branchin
 ghost use Rattle.state.specs.Counted.{add_edge_call, update_call, at_cutoff};
 ghost use Rattle.state.specs.Says.{marking_answer, edge_answer, number_answer, test_answer};
 
-use super::{EdgePresence, NoBase, PRESENCE, Side, WrongCutoff, packing};
+use super::{EdgePresence, NoBase, PRESENCE, Side, WrongCutoff};
 use dna::Base;
 
 impl EdgePresence {
@@ -13,7 +13,7 @@ impl EdgePresence {
     pub fn add_edge(self, side: Side, edge: Base) -> Result<EdgePresence, NoBase>
         ensures { marking_answer result ≡ add_edge_call presence self.flags side (code_in edge) }
     {
-        let flags = packing::add_edge(PRESENCE, self.flags, side, edge)?;
+        let flags = PRESENCE.add_edge(self.flags, side, edge)?;
         Ok(EdgePresence { flags })
     }
 
@@ -21,7 +21,7 @@ impl EdgePresence {
     pub fn update_edges(self, front: Base, back: Base) -> Result<EdgePresence, NoBase>
         ensures { marking_answer result ≡ update_call presence self.flags (code_in front) (code_in back) }
     {
-        let flags = packing::update(PRESENCE, self.flags, front, back)?;
+        let flags = PRESENCE.update(self.flags, front, back)?;
         Ok(EdgePresence { flags })
     }
 
@@ -32,7 +32,7 @@ impl EdgePresence {
         if cutoff != 1 {
             return Err(WrongCutoff);
         }
-        Ok(packing::tally(PRESENCE, self.flags, side, cutoff).edges)
+        Ok(PRESENCE.tally(self.flags, side, cutoff).edges)
     }
 
     // E for no edge, the base for one, N for more.
@@ -42,7 +42,7 @@ impl EdgePresence {
         if cutoff != 1 {
             return Err(WrongCutoff);
         }
-        Ok(packing::edge_at(PRESENCE, self.flags, side, cutoff))
+        Ok(PRESENCE.edge_at(self.flags, side, cutoff))
     }
 
     pub fn is_branching_side(self, side: Side, cutoff: u32) -> Result<bool, WrongCutoff>
