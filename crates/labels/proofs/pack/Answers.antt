@@ -7,5 +7,5 @@ use Rattle.labels.proofs.pack.Goals as goal
 pub slice_bounds-file-end : goal.slice_bounds-file-end
 slice_bounds-file-end g c = packs_within _ _ _ _ c.in-Ok.ensures
 
-pub slice_bounds-print-end-in-Ok : goal.slice_bounds-print-end-in-Ok
-slice_bounds-print-end-in-Ok g c = simp length-take (omega (arith, packs_within _ _ _ _ c.in-Ok.ensures))
+pub slice_bounds-write_all-end : goal.slice_bounds-write_all-end
+slice_bounds-write_all-end g c = simp length-take (omega (arith, packs_within _ _ _ _ c.in-Ok.ensures))
