@@ -9,12 +9,14 @@ use kmer::Kmer;
 pub(crate) fn bases_of(cells: usize) -> usize
     ensures { result ≡ bases_of cells }
 {
-    match cells {
-        0..=1024 => 0,
-        1025..=4096 => 5,
-        4097..=16384 => 6,
-        _ => 7,
+    // By jumps: a `match` or an `else if` becomes selections, for which a look-up waits (3 % longer or more).
+    if 16384 < cells {
+        return 7;
     }
+    if 4096 < cells {
+        return 6;
+    }
+    if 1024 < cells { 5 } else { 0 }
 }
 
 // The last b bases of a word.
@@ -43,9 +45,11 @@ pub(crate) fn slot_of(k: usize, b: usize, x: Kmer) -> usize
     requires { b ≤ 7 }
     ensures { result ≡ slot_of b k (value_of x) }
 {
-    match k.saturating_sub(b) {
-        0 => bases_before(x, 0, b),
-        rest @ 1..64 => bases_before(x, 2 * rest, b),
-        _ => 0,
+    if k <= b {
+        return bases_before(x, 0, b);
     }
+    if 63 < k - b {
+        return 0;
+    }
+    bases_before(x, 2 * (k - b), b)
 }

@@ -1,11 +1,13 @@
 // Whether a table is fit.
 ghost use Rattle.std.specs.Prelude.{◌≡◌, true, ◌&&◌, ◌+◌, ◌*◌, ◌/◌, ◌%◌, ◌^◌, ◌≤◌, ◌<◌, ltb, length};
-ghost use Rattle.kmer.specs.Kmer.{ok_k, joined, is_canon, rc};
+ghost use Rattle.kmer.specs.Kmer.{ok_k, is_canon, rc};
+ghost use Rattle.kmer.specs.Says.{value_of};
 ghost use Rattle.state.specs.Says.{kind_of};
 ghost use Rattle.graph.specs.Table.{keys_of, fit_from};
 ghost use Rattle.table.specs.Bounds.{bound_of, unit_of, Bounds};
 ghost use Rattle.table.specs.Calls.{fit_call, fit_answer};
 
+use super::search::key_at;
 use super::words::words_fit;
 use super::{FitError, capacity};
 use kmer::Kmer;
@@ -45,24 +47,13 @@ fn make_bounds(k: usize, bounds: &mut [u64; 256])
     }
 }
 
-// A k-mer is below 4 to the K and canonical.
-fn is_key(k: usize, low: u64, high: u64) -> bool
+// A k-mer is below 4 to the K and canonical. Not inlined, so that the compiler makes a loop of each case of K.
+#[inline(never)]
+fn is_key(k: usize, x: Kmer) -> bool
     requires { ok_k k ≡ true }
-    ensures { result ≡ ltb (joined low high) (4 ^ k) && is_canon k (joined low high) }
+    ensures { result ≡ ltb (value_of x) (4 ^ k) && is_canon k (value_of x) }
 {
-    let x = Kmer { words: [low, high] };
     matches!(x.is_canonical(k), Ok(true))
-}
-
-// A number of two words is below another.
-fn below(low: u64, high: u64, other_low: u64, other_high: u64) -> bool
-    ensures { result ≡ ltb (joined low high) (joined other_low other_high) }
-{
-    if high == other_high {
-        low < other_low
-    } else {
-        high < other_high
-    }
 }
 
 // The last four bases of a k-mer.
@@ -82,10 +73,11 @@ fn but_three(l: u64, h: u64) -> u64
 // The bound of its last four bases tells that a k-mer of more than 32 bases is a key: below it, it begins before its
 // reverse complement does. From K = 36 on the low words don't matter, since that of a bound is 0; up to K = 35 the last
 // three bases don't.
-fn is_told(k: usize, l: u64, h: u64, bounds: &[u64; 256]) -> bool
+fn is_told(k: usize, x: Kmer, bounds: &[u64; 256]) -> bool
     requires { (32 < k) × Bounds k bounds.now }
-    ensures { result ≡ true → ltb (joined l h) (4 ^ k) && is_canon k (joined l h) ≡ true }
+    ensures { result ≡ true → ltb (value_of x) (4 ^ k) && is_canon k (value_of x) ≡ true }
 {
+    let [l, h] = x.words;
     let bound = bounds[last_four(l)];
     if 35 < k {
         h < bound
@@ -95,23 +87,23 @@ fn is_told(k: usize, l: u64, h: u64, bounds: &[u64; 256]) -> bool
 }
 
 // The same as `follows` for K up to 32, where a key is its low word: a k-mer with a high word is too large.
-fn low_follows(k: usize, low: u64, l: u64, h: u64, bounds: &[u64; 256]) -> bool
+fn low_follows(k: usize, low: u64, x: Kmer, bounds: &[u64; 256]) -> bool
     requires { (ok_k k ≡ true) × (k ≤ 32) × Bounds k bounds.now }
-    ensures { result ≡ ltb low (joined l h) && ltb (joined l h) (4 ^ k) && is_canon k (joined l h) }
+    ensures { result ≡ ltb low (value_of x) && ltb (value_of x) (4 ^ k) && is_canon k (value_of x) }
 {
-    h == 0 && low < l && (l < bounds[last_four(l)] || is_key(k, l, 0))
+    let [l, h] = x.words;
+    h == 0 && low < l && (l < bounds[last_four(l)] || is_key(k, x))
 }
 
-// The k-mer of the words l and h is a key, and above the key before it. So most keys are told without their reverse
-// complements.
-fn follows(k: usize, low: u64, high: u64, l: u64, h: u64, bounds: &[u64; 256]) -> bool
-    requires { (ok_k k ≡ true) × (joined low high < 4 ^ k) × Bounds k bounds.now }
-    ensures { result ≡ ltb (joined low high) (joined l h) && ltb (joined l h) (4 ^ k) && is_canon k (joined l h) }
+// x is a key, and above the key before it. So most keys are told without their reverse complements.
+fn follows(k: usize, before: Kmer, x: Kmer, bounds: &[u64; 256]) -> bool
+    requires { (ok_k k ≡ true) × (value_of before < 4 ^ k) × Bounds k bounds.now }
+    ensures { result ≡ ltb (value_of before) (value_of x) && ltb (value_of x) (4 ^ k) && is_canon k (value_of x) }
 {
     if k <= 32 {
-        low_follows(k, low, l, h, bounds)
+        low_follows(k, before.words[0], x, bounds)
     } else {
-        below(low, high, l, h) && (is_told(k, l, h, bounds) || is_key(k, l, h))
+        before.is_less(x) && (is_told(k, x, bounds) || is_key(k, x))
     }
 }
 
@@ -121,19 +113,16 @@ fn all_fit(k: usize, n: usize, keys: &[u64], bounds: &[u64; 256]) -> bool
     requires { (ok_k k ≡ true) × (0 < n) × (n ≤ length keys.now / 2) × Bounds k bounds.now }
     ensures { result ≡ fit_from k 0 (keys_of n keys.now) }
 {
-    let mut low = keys[0];
-    let mut high = keys[1];
-    if !is_key(k, low, high) {
+    let mut before = key_at(keys, 0);
+    if !is_key(k, before) {
         return false;
     }
     for i in 1..n {
-        let l = keys[2 * i];
-        let h = keys[2 * i + 1];
-        if !follows(k, low, high, l, h, bounds) {
+        let x = key_at(keys, i);
+        if !follows(k, before, x, bounds) {
             return false;
         }
-        low = l;
-        high = h;
+        before = x;
     }
     true
 }
