@@ -23,7 +23,8 @@ module _ (f : ℕ → ℕ) (ws slice₀ : List ℕ) where
   first_whole h = over_all first slice₀ (omega (arith, length_first))
 
   module _ (slice : List ℕ) (i : ℕ) (b : Built first slice₀ slice i) where
-    pub first_more : (v : ℕ) → i < length slice₀ → i < length ws → v ≡ f (get_or ws i 0) → Built first slice₀ (set slice i v) (i + 1)
+    pub first_more : (v : ℕ) → i < length slice₀ → i < length ws → v ≡ f (get_or ws i 0)
+        → Built first slice₀ (set slice i v) (i + 1)
     first_more v h k e =
         let l : i < length (take (length slice₀) ws) = omega (arith, length-take (length slice₀) ws) in
         built_more first slice₀ slice i b v (omega (arith, length_first)) h

@@ -1,5 +1,5 @@
--- A fit table of which the first n marks are lent, and the marks that its words give: they are ready, and none is visited.
--- Assumes nothing.
+-- A fit table of which the first n marks are lent, and the marks that its words give: they are ready, and none is
+-- visited. Assumes nothing.
 use mathlib.Core.Path.{◌≡◌, ap, ◌∙◌}
 use mathlib.Core.Bool.{true}
 use mathlib.Core.List.{List, map}
@@ -30,7 +30,8 @@ fit_first K n keys counts marks ok f h =
       room = omega arith;
       counted = omega arith;
       few = omega arith;
-      fits = ap (λ (z : ℕ). fit_from K 0 (keys_of z keys)) l ∙ (both (leb n (capacity keys counts)) (fit_from K 0 (keys_of n keys)) f).1;
+      fits = ap (λ (z : ℕ). fit_from K 0 (keys_of z keys)) l
+          ∙ (both (leb n (capacity keys counts)) (fit_from K 0 (keys_of n keys)) f).1;
     }
 
 module _ (κ : Kind) (K cutoff : ℕ) (keys counts ms₀ : List ℕ) (t : FitTable K keys counts ms₀) {ms : List ℕ}
@@ -39,7 +40,8 @@ module _ (κ : Kind) (K cutoff : ℕ) (keys counts ms₀ : List ℕ) (t : FitTab
   marks_are = digested ∙ first_whole (mark_of κ cutoff) counts ms₀ t.counted
 
   pub long : length ms ≡ length ms₀
-  long = ap length marks_are ∙ length-map (take (length ms₀) counts) (mark_of κ cutoff) ∙ length-take-le (length ms₀) counts t.counted
+  long = ap length marks_are ∙ length-map (take (length ms₀) counts) (mark_of κ cutoff)
+      ∙ length-take-le (length ms₀) counts t.counted
 
   pub ends_are : ends ms ≡ map (ends_of κ cutoff) (take (length ms₀) counts)
   ends_are = ap ends marks_are ∙ marks_ends κ cutoff (take (length ms₀) counts)

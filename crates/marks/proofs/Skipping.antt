@@ -16,5 +16,6 @@ module _ (ms : List ℕ) (a : ℕ) where
 
   -- Its mark is m.
   pub skipped_at : (m : ℕ) → a < length ms → m ≡ get_or ms a 0
-      → (visited (visits ms) a || isolated (ends ms) a) ≡ (eqb (m / 64) 1 || (eqb (end_in m Front) 5 && eqb (end_in m Back) 5))
+      → (visited (visits ms) a || isolated (ends ms) a)
+      ≡ (eqb (m / 64) 1 || (eqb (end_in m Front) 5 && eqb (end_in m Back) 5))
   skipped_at m h e = rw (visited_is ms a h, edge_is ms a h Front, edge_is ms a h Back, e)

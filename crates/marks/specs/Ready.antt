@@ -18,7 +18,8 @@ pub record FitTable (K : ℕ) (keys counts ms : List ℕ) : Type 0 where
   pub few : length ms ≤ 65536
   pub fits : fit_from K 0 (keys_for ms keys) ≡ true
 
--- K is in its range, there is a key for each mark, there are at most 65,536, the keys are fit, and each end is E, a base or N.
+-- K is in its range, there is a key for each mark, there are at most 65,536, the keys are fit, and each end is E, a
+-- base or N.
 pub record Ready (K : ℕ) (keys ms : List ℕ) : Type 0 where
   pub ok : ok_k K ≡ true
   pub room : length ms ≤ length keys / 2

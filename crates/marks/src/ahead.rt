@@ -44,11 +44,13 @@ fn closes(anchor: usize, start: Side, vertex: usize, side: Side) -> bool
     vertex == anchor && side != start
 }
 
-// Vertex w would be entered by a side, come to by a base: the walk stops if that side retains several edges, or if the vertex is
-// visited; else it goes on by the opposite side. A vertex past the marks has no edge and is not visited. K and the keys play no part.
+// Vertex w would be entered by a side, come to by a base: the walk stops if that side retains several edges, or if the
+// vertex is visited; else it goes on by the opposite side. A vertex past the marks has no edge and is not visited. K
+// and the keys play no part.
 #[tactic(auto, using(crate::proofs::Entering::enter_past, crate::proofs::Entering::enter_at))]
 pub fn enter(marks: &[u8], anchor: usize, start: Side, w: usize, side: Side, base: u8) -> Step
-    ensures { (K : ℕ) (ks : List ℕ) → result ≡ entered K ks (ends marks.now) anchor start (visits marks.now) w side base }
+    ensures { (K : ℕ) (ks : List ℕ) →
+        result ≡ entered K ks (ends marks.now) anchor start (visits marks.now) w side base }
 {
     if let Some(&mark) = marks.get(w) {
         if edge_in(mark, side) == 4 {

@@ -1,4 +1,5 @@
-// The lent marks as the walks use them: Front's edge in the lowest three bits, Back's in the next three, visited in the bit above.
+// The lent marks as the walks use them: Front's edge in the lowest three bits, Back's in the next three, visited in the
+// bit above.
 #![tactic(auto)]
 
 mod ahead;

@@ -25,7 +25,8 @@ pub fn digest(kind: EdgeKind, counts: &[u32], cutoff: u32, marks: &mut [u8])
     }
 }
 
-// Each mark without its edges: 1 for a visited vertex and 0 for the rest, where marks are below 128, as contraction makes them.
+// Each mark without its edges: 1 for a visited vertex and 0 for the rest, where marks are below 128, as contraction
+// makes them.
 pub fn settle(marks: &mut [u8])
     ensures { marks.new ≡ visits marks.old }
 {

@@ -21,11 +21,16 @@ pub record Turned (s₀ s : List ℕ) (i : ℕ) : Type 0 where
   pub between : (k : ℕ) → i ≤ k → k + i < length s₀ → get_or s k 0 ≡ get_or s₀ k 0
 
 pub turned_none : (s : List ℕ) → Turned s s 0
-turned_none s = record { long = refl; ends = λ k h f. absurd (not-suc-le-zero (f (omega arith))); between = λ k _ _. refl }
+turned_none s = record {
+  long = refl;
+  ends = λ k h f. absurd (not-suc-le-zero (f (omega arith)));
+  between = λ k _ _. refl;
+}
 
 module _ {s₀ s : List ℕ} {i : ℕ} (t : Turned s₀ s i) where
   -- One place more at either end, or the middle.
-  pub turned_more : (j x y : ℕ) → i ≤ j → i + j + 1 ≡ length s₀ → x ≡ complement_letter (get_or s i 0) → y ≡ complement_letter (get_or s j 0)
+  pub turned_more : (j x y : ℕ) → i ≤ j → i + j + 1 ≡ length s₀ → x ≡ complement_letter (get_or s i 0)
+      → y ≡ complement_letter (get_or s j 0)
       → Turned s₀ (set (set s i y) j x) (i + 1)
   turned_more j x y h n ex ey = record {
     long = simp length-set t.long;
@@ -45,7 +50,8 @@ module _ {s₀ s : List ℕ} {i : ℕ} (t : Turned s₀ s i) where
       ends k l f (no e) (yes d) =
           let m : length s₀ - 1 - k ≡ j = omega arith in
           get_or-set_other (set s i y) j k x 0 e
-          ∙ rw (m, d) (get_or-set_same s i y 0 (omega (arith, t.long)) ∙ ey ∙ ap complement_letter (t.between j h (omega arith)))
+          ∙ rw (m, d) (get_or-set_same s i y 0 (omega (arith, t.long)) ∙ ey
+          ∙ ap complement_letter (t.between j h (omega arith)))
       ends k l f (no e) (no d) =
           let u : k + i < length s₀ → k < i = λ v. let w : k < i + 1 = f (omega arith) in omega arith in
           other k e d ∙ t.ends k l u
@@ -54,4 +60,5 @@ module _ {s₀ s : List ℕ} {i : ℕ} (t : Turned s₀ s i) where
   pub turned_all : length s₀ - length s₀ / 2 ≤ i → s ≡ reverse_complement s₀
   turned_all h =
       ext_get_or 0 s (reverse_complement s₀) (t.long ∙ sym (length_reverse_complement s₀))
-      (λ k l. let m : k < length s₀ = omega (arith, t.long) in t.ends k m (λ u. omega arith) ∙ sym (reverse_complement_at s₀ k m))
+      (λ k l. let m : k < length s₀ = omega (arith, t.long) in t.ends k m (λ u. omega arith)
+      ∙ sym (reverse_complement_at s₀ k m))

@@ -9,7 +9,8 @@ pub loop-mark-preserved : goal.loop-mark-preserved
 loop-mark-preserved c =
     let l = c.loop-mark in
     let within : l.mark-index < length l.marks = omega arith in
-    map_over_more (λ m. m / 64) c.args.marks.now l.marks l.mark-index (get_or l.marks l.mark-index 0) (omega arith) l.invariant
+    map_over_more (λ m. m / 64) c.args.marks.now l.marks l.mark-index (get_or l.marks l.mark-index 0)
+    (omega arith) l.invariant
     (get_or_default l.marks l.mark-index 0 _ within)
 
 pub returns : goal.returns
