@@ -60,31 +60,16 @@ fn judge_kmers(
     }
 }
 
-// The directory is made first.
-fn judge_by(
-    k: usize,
-    keys: &[u64],
-    directory: &mut [u32],
-    marks: &mut [u8],
-    text: &[u8],
-) -> Option<Broken>
-    requires { Ready k keys.now marks.old × Unvisited marks.old × (is_held (listing k text.now) ≡ true) }
-    ensures { judge_answer (Ok result) ≡ gives (kmers_verdict k (keys_for marks.old keys.now)
-        (ends marks.old) (labels_in (listing k text.now))) }
-{
-    directory::make(k, marks.len(), keys, directory);
-    judge_kmers(k, keys, directory, marks, text)
-}
-
-// A directory of up to 64 KiB.
+// The k-mers are looked up by a directory of up to 64 KiB.
 fn judge_directed(k: usize, keys: &[u64], marks: &mut [u8], text: &[u8]) -> Option<Broken>
     requires { Ready k keys.now marks.old × Unvisited marks.old × (is_held (listing k text.now) ≡ true) }
     ensures { judge_answer (Ok result) ≡ gives (kmers_verdict k (keys_for marks.old keys.now)
         (ends marks.old) (labels_in (listing k text.now))) }
 {
-    let mut directory = [0u32; 16385];
-    let cells = directory::cells_for(marks.len());
-    judge_by(k, keys, &mut directory[..cells], marks, text)
+    let mut cells = [0u32; 16385];
+    let directory = &mut cells[..directory::cells_for(marks.len())];
+    directory::make(k, marks.len(), keys, directory);
+    judge_kmers(k, keys, directory, marks, text)
 }
 
 // A list over a fit table of as many vertices as there are marks, which are 0 afterwards.
@@ -111,25 +96,6 @@ fn judge_list(
     };
     marks::clear(marks);
     broken
-}
-
-// A list over a fit table of n vertices, for which there are marks.
-fn judge_first(
-    kind: EdgeKind,
-    k: usize,
-    cutoff: u32,
-    n: usize,
-    keys: &[u64],
-    counts: &[u32],
-    text: &[u8],
-    marks: &mut [u8],
-) -> Option<Broken>
-    requires { (n ≤ length marks.old) × FitTable k keys.now counts.now (take n marks.old)
-        × (is_held (listing k text.now) ≡ true) }
-    ensures { Judges (Ok result) marks.new (on_list (kind_of kind) k cutoff n keys.now counts.now
-        text.now marks.old (listing k text.now)) }
-{
-    judge_list(kind, k, cutoff, keys, counts, text, &mut marks[..n])
 }
 
 // A FASTA text judged over a table at a cutoff, or the first of the refusals 1, 5, 15, 7, 16, 17 that is due.
@@ -159,5 +125,5 @@ pub fn judge(
     if !places::is_list(k, text) {
         return Err(JudgeError::NoList);
     }
-    Ok(judge_first(kind, k, cutoff, n, keys, counts, text, marks))
+    Ok(judge_list(kind, k, cutoff, keys, counts, text, &mut marks[..n]))
 }

@@ -3,7 +3,7 @@
 use mathlib.Core.Path.{sym, ◌∙◌}
 use Rattle.std.proofs.lemmas.Result.{err_from_is_err_and}
 use Rattle.state.specs.Says.{kind_of}
-use Rattle.judging.proofs.Refusing.{not_taken, wrong_cutoff, few_marks, even_K, no_list_lem, goes_on}
+use Rattle.judging.proofs.Refusing.{not_taken, wrong_cutoff, few_marks, even_K, no_list_lem, goes_on, first_n}
 use Rattle.judging.proofs.judgement.judge.Goals as goal
 
 pub returns-in_err-fit : goal.returns-in_err-fit
@@ -47,11 +47,15 @@ returns-then-not-is_list c =
     (sym c.answers_for.ensures ∙ c.if-not-answers_for.false)
     c.if-marks-n.false c.if-k-eq0.false c.is_list.ensures c.if-not-is_list.true
 
+-- The first n marks are lent; those behind them stay.
 pub returns : goal.returns
 returns c =
     let a = c.args in
+    let held = sym c.is_list.ensures ∙ c.if-not-is_list.false in
     goes_on (kind_of a.kind) a.k a.cutoff a.n a.keys.now a.counts.now a.text.now
     a.marks.now
     c.fit.ensures c.in_ok-fit.was
     (sym c.answers_for.ensures ∙ c.if-not-answers_for.false)
-    c.if-marks-n.false c.if-k-eq0.false c.is_list.ensures c.judge_first.ensures
+    c.if-marks-n.false c.if-k-eq0.false c.is_list.ensures
+    (first_n (kind_of a.kind) a.k a.cutoff a.n a.keys.now a.counts.now a.text.now a.marks.now
+    c.if-marks-n.false held c.judge_list.ensures)
