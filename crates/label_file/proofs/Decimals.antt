@@ -22,7 +22,8 @@ decimal_front (suc most) x s =
     let d = 48 + x % 10 in
     ⊎_elim (λ h. decimal_last most x s h ∙ ap (λ (ds : List ℕ). ds ++ s) (sym (decimal_last most x [] h)))
     (λ h.
-    decimal_more most x s h ∙ decimal_front most (x / 10) (d ∷ s) ∙ sym (append_assoc (decimal most (x / 10) []) (d ∷ []) s)
+    decimal_more most x s h ∙ decimal_front most (x / 10) (d ∷ s)
+    ∙ sym (append_assoc (decimal most (x / 10) []) (d ∷ []) s)
     ∙ ap (λ (ds : List ℕ). ds ++ s) (sym (decimal_more most x [] h ∙ decimal_front most (x / 10) (d ∷ []))))
     (lt_or_ge x 10)
 

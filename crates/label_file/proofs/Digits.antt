@@ -24,8 +24,8 @@ module _ (m x : ℕ) (s : List ℕ) where
   unfolding decimal
   decimal_more h = rw (le-ltb x 10 h)
 
--- Place i has the last digit of x, and x in front of what stands behind that place is the number in front of the text. At most `more`
--- digits are to come.
+-- Place i has the last digit of x, and x in front of what stands behind that place is the number in front of the text.
+-- At most `more` digits are to come.
 pub record Digits (number : ℕ) (out₀ : List ℕ) (at : ℕ) (out : List ℕ) (x i : ℕ) : Type 0 where
   pub more : ℕ
   pub places : at + more ≡ i + 20
@@ -67,7 +67,8 @@ module _ {number : ℕ} {out₀ : List ℕ} {at : ℕ} {out : List ℕ} {x i : �
   pub digits_next : 10 ≤ x → Digits number out₀ at (set out (i - 1) (48 + x / 10 % 10)) (x / 10) (i - 1)
   digits_next h = go d.more d.places d.small d.text
     where
-      go : (more : ℕ) → at + more ≡ i + 20 → x < 10 ^ suc more → decimal 20 number (drop at out₀) ≡ decimal (suc more) x (drop (suc i) out)
+      go : (more : ℕ) → at + more ≡ i + 20 → x < 10 ^ suc more
+          → decimal 20 number (drop at out₀) ≡ decimal (suc more) x (drop (suc i) out)
           → Digits number out₀ at (set out (i - 1) (48 + x / 10 % 10)) (x / 10) (i - 1)
       go zero p s t = absurd (omega arith)
       go (suc more) p s t =
@@ -75,7 +76,8 @@ module _ {number : ℕ} {out₀ : List ℕ} {at : ℕ} {out : List ℕ} {x i : �
           let out' = set out (i - 1) v in
           let b : 1 ≤ i = digits_left h in
           let e : suc (i - 1) ≡ i = omega arith in
-          let kept : drop (suc (i - 1)) out' ≡ drop (suc (i - 1)) out = drop-set-lt (suc (i - 1)) out (i - 1) v (omega arith) in
+          let kept : drop (suc (i - 1)) out'
+          ≡ drop (suc (i - 1)) out = drop-set-lt (suc (i - 1)) out (i - 1) v (omega arith) in
           record {
             more = more;
             places = omega arith;

@@ -19,5 +19,6 @@ module _ (file : List ℕ) (doing : Doing) (b : Buffers) where
     on_bad_K e = rw (s, on_file, e)
 
     -- Neither: K and the cutoff are as the first record says.
-    pub on_sound : ok_k (k_in file) ≡ true → on_file doing b file ≡ doing (k_in file) (cutoff_in file) (labels_of (file_of file)) b
+    pub on_sound : ok_k (k_in file) ≡ true
+        → on_file doing b file ≡ doing (k_in file) (cutoff_in file) (labels_of (file_of file)) b
     on_sound e = rw (s, on_file, e)

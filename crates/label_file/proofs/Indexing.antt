@@ -1,4 +1,5 @@
--- The labels of a file indexed one by one: those listed, and those of the unread records behind them, are all. Assumes nothing.
+-- The labels of a file indexed one by one: those listed, and those of the unread records behind them, are all. Assumes
+-- nothing.
 use mathlib.Core.Path.{◌≡◌, refl, sym, ◌∙◌}
 use mathlib.Core.Bool.{true}
 use mathlib.Core.List.{List, [], ◌∷◌, ◌++◌, append_assoc, append-nil}
@@ -11,7 +12,8 @@ use Rattle.label_file.specs.LabelFile.{two, file_of, labels_of}
 use Rattle.label_file.specs.Says.{Sound, Indexes}
 use Rattle.label_file.proofs.Unread.{Unread, Next, unread_all, unread_none, unread_next}
 
--- Entry i is for record i + 1, the first unread one, which stands at place `at`: each record before it has at least four bytes.
+-- Entry i is for record i + 1, the first unread one, which stands at place `at`: each record before it has at least
+-- four bytes.
 pub record SomeIndexed (file : List ℕ) (i at : ℕ) (starts lengths : List ℕ) : Type 0 where
   pub rest : List (List ℕ)
   pub unread : Unread file (i + 1) at rest

@@ -53,7 +53,8 @@ module _ (p : ℕ) (b : Buffers) (c : Contracted) (labels starts lengths marks :
 
     module _ (t : Contracts (Ok u) labels starts lengths marks c) where
       -- What is printed of a contracted one.
-      after : listed_after p b c ≡ with_text (lent b.keys b.counts labels starts lengths marks b.text) (printed p b.text written)
+      after : listed_after p b c
+          ≡ with_text (lent b.keys b.counts labels starts lengths marks b.text) (printed p b.text written)
       unfolding listed_after
       after =
           let a : c.answer ≡ contract_answer (Ok u) = sym t.answer in
@@ -61,7 +62,8 @@ module _ (p : ℕ) (b : Buffers) (c : Contracted) (labels starts lengths marks :
 
       -- Its list is written.
       pub listed_all : {n : ℕ} {out : List ℕ} → ListsFasta (Ok n) out written
-          → listed_after p b c ≡ record { answer = gives n; buffers = lent b.keys b.counts labels starts lengths marks out }
+          → listed_after p b c
+          ≡ record { answer = gives n; buffers = lent b.keys b.counts labels starts lengths marks out }
       unfolding printed
       listed_all w =
           let a : written.answer ≡ gives _ = sym w.answer in

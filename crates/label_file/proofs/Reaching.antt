@@ -1,4 +1,5 @@
--- The records of a file one by one: what is known of the place of each, and what the file says from there on. Assumes nothing.
+-- The records of a file one by one: what is known of the place of each, and what the file says from there on. Assumes
+-- nothing.
 use mathlib.Core.Path.{◌≡◌, refl}
 use mathlib.Core.Bool.{true, false}
 use mathlib.Core.List.{List, [], ◌∷◌}
@@ -7,7 +8,8 @@ use native.Mathlib.Numerals.{add-one}
 use native.Mathlib.Omega.{arith}
 use lib.ListN.{length, take, drop, length-drop, drop_of_length-le}
 use lib.Seq.{drop-drop}
-use Rattle.label_file.specs.LabelFile.{LabelFile, damaged, holds, two, headed, labelled, with, labels_from, k_in, cutoff_in}
+use Rattle.label_file.specs.LabelFile.{LabelFile, damaged, holds, two, headed, labelled, with, labels_from, k_in}
+use Rattle.label_file.specs.LabelFile.{cutoff_in}
 use Rattle.label_file.proofs.Marks.{two_at, headed_long, labelled_room}
 
 module _ (K cutoff : ℕ) where
@@ -16,7 +18,8 @@ module _ (K cutoff : ℕ) where
   labels_none zero i = refl
   labels_none (suc most) i = refl
 
-  labels_bad : (most i : ℕ) (s : List ℕ) → 0 < most → 0 < length s → labelled s ≡ false → labels_from K cutoff most i s ≡ damaged i
+  labels_bad : (most i : ℕ) (s : List ℕ) → 0 < most → 0 < length s → labelled s ≡ false
+      → labels_from K cutoff most i s ≡ damaged i
   unfolding labels_from
   labels_bad zero i s m l h = absurd (omega arith)
   labels_bad (suc most) i [] m l h = absurd (omega arith)
@@ -29,8 +32,8 @@ module _ (K cutoff : ℕ) where
   labels_next (suc most) i [] m l h = absurd (omega arith)
   labels_next (suc most) i (b ∷ s) m l h = let e : suc most - 1 ≡ most = omega arith in rw (h, e, add-one i)
 
--- What is known of the place `at` of record i, or of the file's end: it lies within the file, and no more than `most` bytes, so no more
--- records, stand from there on.
+-- What is known of the place `at` of record i, or of the file's end: it lies within the file, and no more than `most`
+-- bytes, so no more records, stand from there on.
 pub record Reached (file : List ℕ) (i at most : ℕ) : Type 0 where
   pub enough : length file ≤ at + most
   pub within : at ≤ length file
@@ -68,10 +71,16 @@ module _ {file : List ℕ} {i at most : ℕ} (p : Reached file i at most) where
 
       pub reached_next : Reached file (i + 1) (at + 4 + two file (at + 2)) (most - 1)
       reached_next =
-          record { enough = omega (arith, p.enough, more); within = next_room; short = p.short; few = omega (arith, p.few) }
+          record {
+            enough = omega (arith, p.enough, more);
+            within = next_room;
+            short = p.short;
+            few = omega (arith, p.few);
+          }
 
       pub from_next : says_from file i at most
-          ≡ with (take (two file (at + 2)) (drop (at + 4) file)) (says_from file (i + 1) (at + 4 + two file (at + 2)) (most - 1))
+          ≡ with (take (two file (at + 2)) (drop (at + 4) file))
+          (says_from file (i + 1) (at + 4 + two file (at + 2)) (most - 1))
       from_next =
           let n = two file (at + 2) in
           let e : at + (4 + n) ≡ at + 4 + n = omega arith in

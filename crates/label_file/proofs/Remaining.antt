@@ -1,5 +1,5 @@
--- The form of a file checked record by record: the labels passed and the records that remain are what the whole file says.
--- Assumes nothing.
+-- The form of a file checked record by record: the labels passed and the records that remain are what the whole file
+-- says. Assumes nothing.
 use mathlib.Core.Path.{◌≡◌, refl, sym, ap, ◌∙◌}
 use mathlib.Core.Bool.{true, false}
 use mathlib.Core.List.{List, [], ◌∷◌, ◌++◌}
@@ -7,7 +7,8 @@ use Prim.Native.Nat.{ℕ, ◌+◌, ◌-◌, ◌≤◌, ◌<◌}
 use native.Mathlib.Omega.{arith}
 use borrow.Author.Tests.{le-leb, lt-leb}
 use lib.ListN.{length, take, drop}
-use Rattle.label_file.specs.LabelFile.{LabelFile, damaged, holds, two, headed, labelled, with, k_in, cutoff_in, file_of, labels_of}
+use Rattle.label_file.specs.LabelFile.{LabelFile, damaged, holds, two, headed, labelled, with, k_in, cutoff_in, file_of}
+use Rattle.label_file.specs.LabelFile.{labels_of}
 use Rattle.label_file.specs.Says.{Sound}
 use Rattle.label_file.proofs.Reaching.{Reached, reached_first, reached_next, says_from, from_none, from_bad, from_next}
 
@@ -21,7 +22,8 @@ unfolding with_all
 with_damaged [] i = refl
 with_damaged (label ∷ labels) i = rw (with_damaged labels i)
 
-with_holds : (labels more : List (List ℕ)) (K cutoff : ℕ) → with_all labels (holds K cutoff more) ≡ holds K cutoff (labels ++ more)
+with_holds : (labels more : List (List ℕ)) (K cutoff : ℕ)
+    → with_all labels (holds K cutoff more) ≡ holds K cutoff (labels ++ more)
 unfolding with_all
 with_holds [] more K cutoff = refl
 with_holds (label ∷ labels) more K cutoff = rw (with_holds labels more K cutoff)

@@ -1,5 +1,5 @@
--- The definition of what the call answers tells its cases apart, so its contract allows one answer and one content of each buffer.
--- Assumes nothing.
+-- The definition of what the call answers tells its cases apart, so its contract allows one answer and one content of
+-- each buffer. Assumes nothing.
 use mathlib.Core.Path.{◌≡◌, refl, sym, ◌∙◌}
 use Prim.Native.Nat.{ℕ}
 use Rattle.std.specs.Prelude.{Result}

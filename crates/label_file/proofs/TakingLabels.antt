@@ -91,8 +91,10 @@ module _ (k : ℕ) (file keys₀ counts₀ : List ℕ) where
           x.few,
         )
 
-    module _ {a : Result Additions OutOfText} {keys counts : List ℕ}
-        (t : AddsLabels 0 a keys counts (add_labels four_bits same_canonical k 0 keys₀ counts₀ file starts lengths count)) where
+    abbrev by_entries : Several
+    by_entries = add_labels four_bits same_canonical k 0 keys₀ counts₀ file starts lengths count
+
+    module _ {a : Result Additions OutOfText} {keys counts : List ℕ} (t : AddsLabels 0 a keys counts by_entries) where
       same : AddsLabels 0 a keys counts whole
       same = rw by_index at t
 
@@ -103,8 +105,8 @@ module _ (k : ℕ) (file keys₀ counts₀ : List ℕ) where
           go : (a : Result Additions OutOfText) → labels_say 0 a whole → IsOk a
           go (Ok b) s = refl
           go (Err e) s =
-              let low : Low (refuses 12 []) =
-              rw (← s.2) at (each_low four_bits same_canonical k (untried 0 keys₀ counts₀) (labels_of (file_of file)) tt) in
+              let each = each_low four_bits same_canonical k (untried 0 keys₀ counts₀) (labels_of (file_of file)) tt in
+              let low : Low (refuses 12 []) = rw (← s.2) at each in
               absurd (omega arith)
 
       module _ {b : Additions} (e : a ≡ Ok b) where
@@ -115,9 +117,14 @@ module _ (k : ℕ) (file keys₀ counts₀ : List ℕ) where
         taken_few = omega (arith, few, said.0)
 
         -- None is refused.
-        pub takes_all : {d : Addition} → b.last ≡ Ok d → Takes (Ok (record { vertices = b.stored; records = b.labels + 1 })) keys counts whole
+        pub takes_all : {d : Addition} → b.last ≡ Ok d
+            → Takes (Ok (record { vertices = b.stored; records = b.labels + 1 })) keys counts whole
         takes_all {d} q = record {
-          says = ((record { edges = d.edges; stored = d.stored }, rw q at (sym said.2)), said.1, rw (add-one b.labels) (ap suc said.0));
+          says = (
+            (record { edges = d.edges; stored = d.stored }, rw q at (sym said.2)),
+            said.1,
+            rw (add-one b.labels) (ap suc said.0),
+          );
           keys_after = same.keys_after;
           counts_after = same.counts_after;
         }

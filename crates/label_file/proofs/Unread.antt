@@ -10,12 +10,15 @@ use lib.Dec.{leb}
 use lib.ListN.{length, take, drop}
 use Rattle.lemmas.proofs.Numbers.{true_or_false}
 use Rattle.lemmas.proofs.Tests.{both}
-use Rattle.label_file.specs.LabelFile.{LabelFile, damaged, holds, two, headed, labelled, with, k_in, cutoff_in, file_of, labels_of}
+use Rattle.label_file.specs.LabelFile.{LabelFile, damaged, holds, two, headed, labelled, with, k_in, cutoff_in, file_of}
+use Rattle.label_file.specs.LabelFile.{labels_of}
 use Rattle.label_file.specs.Says.{Sound}
-use Rattle.label_file.proofs.Reaching.{Reached, reached_first, next_room, reached_next, says_from, from_none, from_bad, from_next}
+use Rattle.label_file.proofs.Reaching.{Reached, reached_first, next_room, reached_next, says_from, from_none, from_bad}
+use Rattle.label_file.proofs.Reaching.{from_next}
 
 -- No file is both.
-undamaged : {P : Type 0} {i K cutoff : ℕ} {labels : List (List ℕ)} (f : LabelFile) → f ≡ damaged i → f ≡ holds K cutoff labels → P
+undamaged : {P : Type 0} {i K cutoff : ℕ} {labels : List (List ℕ)} (f : LabelFile) → f ≡ damaged i
+    → f ≡ holds K cutoff labels → P
 undamaged f p q = let z : ◌≡◌ {A = ℕ} 0 1 = cc in absurd (omega arith)
 
 -- The records of the file from number i on, at place `at`, hold the labels `rest`.
@@ -51,7 +54,8 @@ pub record Next (file : List ℕ) (i at size : ℕ) (rest : List (List ℕ)) : T
 module _ {file : List ℕ} {i at : ℕ} {rest : List (List ℕ)} (u : Unread file i at rest) where
   pub unread_none : length file ≤ at → rest ≡ []
   unread_none h =
-      let none : holds (k_in file) (cutoff_in file) [] ≡ holds (k_in file) (cutoff_in file) rest = sym (from_none u.place h) ∙ u.hold in
+      let none : holds (k_in file) (cutoff_in file) []
+      ≡ holds (k_in file) (cutoff_in file) rest = sym (from_none u.place h) ∙ u.hold in
       cc
 
   pub unread_next : at < length file → (size : ℕ) → size ≡ two file (at + 2) → Next file i at size rest
@@ -61,7 +65,8 @@ module _ {file : List ℕ} {i at : ℕ} {rest : List (List ℕ)} (u : Unread fil
       fail : labelled (drop at file) ≡ false → Next file i at (two file (at + 2)) rest
       fail t = undamaged _ (from_bad u.place left t) u.hold
 
-      passed : labelled (drop at file) ≡ true → (f : LabelFile) → says_from file (i + 1) (at + 4 + two file (at + 2)) (u.most - 1) ≡ f
+      passed : labelled (drop at file) ≡ true → (f : LabelFile)
+          → says_from file (i + 1) (at + 4 + two file (at + 2)) (u.most - 1) ≡ f
           → with (take (two file (at + 2)) (drop (at + 4) file)) f ≡ holds (k_in file) (cutoff_in file) rest
           → Next file i at (two file (at + 2)) rest
       passed t (damaged j) e h = undamaged (damaged j) refl h

@@ -41,13 +41,15 @@ refusal_said p error.FewMarks r h n = let e : 7 ≡ number_of r = cc in ap (λ x
 refusal_said p error.EvenK r h n = absurd (h refl)
 refusal_said p error.NoList r h n = let e : 17 ≡ number_of r = cc in ap (λ x. refusal x p) e
 
-module _ (file list keys₀ counts₀ marks₀ : List ℕ) {h : Head} (s : head_says (Ok h) file) {x : Taken} {keys counts : List ℕ}
+module _ (file list keys₀ counts₀ marks₀ : List ℕ) {h : Head} (s : head_says (Ok h) file)
+    {x : Taken} {keys counts : List ℕ}
     (t : Takes (Ok x) keys counts (added h.k (labels_of (file_of file)) (lent_few keys₀ counts₀ marks₀ []))) where
   -- A judgement is made, whose line is this.
   pub judged_line : {r : Result (Option Broken) JudgeError} {marks : List ℕ}
       → Judges r marks (judge four_bits h.k h.cutoff x.vertices keys counts list marks₀)
       → (line : List ℕ) → answer_line x.records (judge_answer r) ≡ line → (text : List ℕ)
-      → judgement (lent_few keys₀ counts₀ marks₀ text) file list ≡ with_text (lent_few keys counts marks text) (fill 11 line text)
+      → judgement (lent_few keys₀ counts₀ marks₀ text) file list
+      ≡ with_text (lent_few keys counts marks text) (fill 11 line text)
   judged_line j line e text =
       let b = lent_few keys₀ counts₀ marks₀ text in
       judgement_run b file list ∙ run_taken (judging list) b file h s x t ∙ rw (← j.answer, e, ← j.marks_after)

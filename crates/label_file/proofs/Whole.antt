@@ -28,7 +28,8 @@ abbrev pub on_table : Stage → ℕ → ℕ → List (List ℕ) → Buffers → 
 on_table stage k cutoff all b =
     let t = added k all b in
     let after = with_table b t.keys t.counts in
-    elim t.answer [ gives e ↦ stage k cutoff t.stored (suc t.labels) after | refuses r vs ↦ refused r (suc t.labels) after ]
+    let p = suc t.labels in
+    elim t.answer [ gives e ↦ stage k cutoff t.stored p after | refuses r vs ↦ refused r p after ]
 
 abbrev pub run : Stage → Buffers → List ℕ → Left
 run stage b file = on_file (on_table stage) b file

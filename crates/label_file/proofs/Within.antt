@@ -24,10 +24,12 @@ use Rattle.label_file.specs.Says.{Doing}
 abbrev pub Within : Left → Type 0
 Within l = (n : ℕ) → l.answer ≡ gives n → n ≤ length l.buffers.text
 
-fasta_inside : (labels starts lengths : List ℕ) (count : ℕ) (text : List ℕ) → Inside (fasta labels starts lengths count text)
+fasta_inside : (labels starts lengths : List ℕ) (count : ℕ) (text : List ℕ)
+    → Inside (fasta labels starts lengths count text)
 unfolding fasta
 fasta_inside labels starts lengths count text =
-    choose Inside (within labels count starts lengths) (λ _. fill_inside 11 (records_of (listed count labels starts lengths)) text)
+    choose Inside (within labels count starts lengths)
+    (λ _. fill_inside 11 (records_of (listed count labels starts lengths)) text)
     (λ _. refused_inside 12 _ text)
 
 printed_inside : (p : ℕ) (text : List ℕ) (f : Filled) → Inside f → Inside (printed p text f)
@@ -51,7 +53,8 @@ list_all_within K cutoff labels b =
     let t = add_each four_bits same_canonical K (untried 0 b.keys b.counts) labels in
     either Within t.answer (λ e _. listed_within (suc t.labels) _ _) (λ r vs _. refused_within r (suc t.labels) _)
 
-judge_all_within : (list : List ℕ) (K cutoff : ℕ) (labels : List (List ℕ)) (b : Buffers) → Within (judge_all list K cutoff labels b)
+judge_all_within : (list : List ℕ) (K cutoff : ℕ) (labels : List (List ℕ)) (b : Buffers)
+    → Within (judge_all list K cutoff labels b)
 unfolding judge_all
 judge_all_within list K cutoff labels b =
     let t = add_each four_bits same_canonical K (untried 0 b.keys b.counts) labels in
@@ -60,13 +63,15 @@ judge_all_within list K cutoff labels b =
     (λ r vs _. refused_within r (suc t.labels) _)
 
 -- The form and K, and whatever is done with what the file holds.
-of_file : (doing : Doing) → ((K cutoff : ℕ) (labels : List (List ℕ)) (b : Buffers) → Within (doing K cutoff labels b)) → (b : Buffers)
+of_file : (doing : Doing) → ((K cutoff : ℕ) (labels : List (List ℕ)) (b : Buffers) → Within (doing K cutoff labels b))
+    → (b : Buffers)
     (f : LabelFile) → Within (elim f [
       | damaged i ↦ refused 13 i b
       | holds K cutoff labels ↦ cond (ok_k K) (doing K cutoff labels b) (refused 1 0 b)
     ])
 of_file doing within b (damaged i) = refused_within 13 i b
-of_file doing within b (holds K cutoff labels) = choose Within (ok_k K) (λ _. within K cutoff labels b) (λ _. refused_within 1 0 b)
+of_file doing within b (holds K cutoff labels) =
+    choose Within (ok_k K) (λ _. within K cutoff labels b) (λ _. refused_within 1 0 b)
 
 pub output_within : (b : Buffers) (file : List ℕ) → Within (output b file)
 unfolding output

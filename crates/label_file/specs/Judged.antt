@@ -1,4 +1,5 @@
--- What the program `judge` does with a label file and a list: what it prints, and what it leaves in its buffers. Assumes nothing.
+-- What the program `judge` does with a label file and a list: what it prints, and what it leaves in its buffers.
+-- Assumes nothing.
 use Rattle.std.specs.Prelude.{ℕ, suc, cond, List, [], ◌++◌, eqb, replicate}
 use Rattle.dna.specs.Text.{bytes}
 use Rattle.dna.specs.Answer.{Answer, gives, refuses, fill}
@@ -9,7 +10,8 @@ use Rattle.graph.specs.Several.{untried, add_each}
 use Rattle.rules.specs.Verdict.{Verdict, yes, no}
 use Rattle.rules.specs.Judging.{Judgement, judge}
 use Rattle.label_file.specs.LabelFile.{damaged, holds, file_of}
-use Rattle.label_file.specs.Output.{Buffers, Left, lent, with_table, with_text, numbers, refusal, refused, zeros, printing}
+use Rattle.label_file.specs.Output.{Buffers, Left, lent, with_table, with_text, numbers, refusal, refused, zeros}
+use Rattle.label_file.specs.Output.{printing}
 
 -- The line of a verdict: `yes`; or `no`, the broken rule and the label.
 abbrev pub verdict_line : Verdict → List ℕ

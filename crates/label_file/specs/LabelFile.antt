@@ -1,5 +1,6 @@
 -- The label file: a `KC` record with K and the cutoff, then `LB` records with a label each. Assumes nothing.
-use Rattle.std.specs.Prelude.{ℕ, zero, suc, ◌+◌, ◌*◌, Bool, cond, ◌&&◌, List, [], ◌∷◌, leb, eqb, length, take, drop, get_or}
+use Rattle.std.specs.Prelude.{ℕ, zero, suc, ◌+◌, ◌*◌, Bool, cond, ◌&&◌, List, [], ◌∷◌, leb, eqb, length, take, drop}
+use Rattle.std.specs.Prelude.{get_or}
 use Rattle.dna.specs.Text.{bytes}
 
 -- What a file says, K, the cutoff and the labels, or the number of its first bad record, from 0.

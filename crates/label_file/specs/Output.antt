@@ -1,4 +1,5 @@
--- What the program `unitigs` does with the bytes that it reads: what it prints, and what it leaves in its buffers. Assumes nothing.
+-- What the program `unitigs` does with the bytes that it reads: what it prints, and what it leaves in its buffers.
+-- Assumes nothing.
 use Rattle.std.specs.Prelude.{ℕ, zero, suc, ◌+◌, ◌/◌, ◌%◌, cond, List, [], ◌∷◌, ◌++◌, ltb, take, replicate}
 use Rattle.dna.specs.Text.{bytes}
 use Rattle.dna.specs.Answer.{Answer, gives, refuses, Filled, fill}
@@ -48,7 +49,8 @@ lent keys counts labels starts lengths marks text = record {
   text = text;
 }
 
--- How many bytes of the text are to be printed, and the buffers afterwards. 11 where not even a refusal's line fits the text.
+-- How many bytes of the text are to be printed, and the buffers afterwards. 11 where not even a refusal's line fits the
+-- text.
 pub record Left : Type 0 where
   pub answer : Answer ℕ
   pub buffers : Buffers
@@ -80,7 +82,8 @@ listed_after p b c =
     let text : Totals → Filled = λ t. fasta c.labels c.starts c.lengths t.labels b.text in
     elim c.answer [ gives t ↦ with_text after (printed p b.text (text t)) | refuses r vs ↦ refused r p after ]
 
--- The labels in order, then contraction and FASTA. The first record is `KC`, so a label with m before it stands in record m + 1.
+-- The labels in order, then contraction and FASTA. The first record is `KC`, so a label with m before it stands in
+-- record m + 1.
 unfoldable pub list_all : ℕ → ℕ → List (List ℕ) → Buffers → Left
 list_all K cutoff labels b =
     let t = add_each four_bits same_canonical K (untried 0 b.keys b.counts) labels in
@@ -95,7 +98,8 @@ output b file = elim (file_of file) [
   | holds K cutoff labels ↦ cond (ok_k K) (list_all K cutoff labels b) (refused 1 0 b)
 ]
 
--- The program's own buffers: 1,024 vertices, 1,024 index entries, 8,192 label bytes and 8,192 FASTA bytes, filled with zeros.
+-- The program's own buffers: 1,024 vertices, 1,024 index entries, 8,192 label bytes and 8,192 FASTA bytes, filled with
+-- zeros.
 abbrev pub zeros : Buffers
 zeros = record {
   keys = replicate 2048 0;

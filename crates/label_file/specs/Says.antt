@@ -1,5 +1,6 @@
 -- What the answers of this crate say, and what its parts do. Assumes nothing.
-use Rattle.std.specs.Prelude.{ℕ, suc, ◌+◌, ◌≤◌, ◌≡◌, true, cond, List, [], drop, Option, Some, None, Result, Ok, Err}
+use Rattle.std.specs.Prelude.{ℕ, suc, ◌+◌, ◌≤◌, ◌≡◌, true, cond, List, [], drop}
+use Rattle.std.specs.Prelude.{Option, Some, None, Result, Ok, Err}
 use Rattle.dna.specs.Answer.{Answer, gives, refuses, Filled}
 use Rattle.dna.specs.declared.NoRoom.{NoRoom}
 use Rattle.kmer.specs.Kmer.{ok_k}
@@ -57,7 +58,8 @@ on_file doing b file = elim (file_of file) [
 -- is refused.
 abbrev pub head_says : Result Head Refusal → List ℕ → Type 0
 head_says (Ok h) file =
-    Sound file × ((doing : Doing) (b : Buffers) → on_file doing b file ≡ doing h.k h.cutoff (labels_of (file_of file)) b)
+    Sound file
+    × ((doing : Doing) (b : Buffers) → on_file doing b file ≡ doing h.k h.cutoff (labels_of (file_of file)) b)
 head_says (Err e) file =
     (doing : Doing) (b : Buffers) → on_file doing b file ≡ refused (number_of e.reason) e.at b
 
@@ -70,7 +72,8 @@ pub record Indexes (file : List ℕ) (count : ℕ) (starts lengths : List ℕ) :
 -- The number stored and the number of records, or the refusal and its record. A label with m before it stands in record
 -- m + 1.
 abbrev pub taking_says : Result Taken Refusal → Several → Type 0
-taking_says (Ok t) s = ((e : Edges) × (s.answer ≡ gives e)) × (t.vertices ≡ s.stored) × (t.records ≡ suc s.labels)
+taking_says (Ok t) s =
+    ((e : Edges) × (s.answer ≡ gives e)) × (t.vertices ≡ s.stored) × (t.records ≡ suc s.labels)
 taking_says (Err e) s = Numbers s.answer e.reason × (e.at ≡ suc s.labels)
 
 -- Labels added: what is said of them, and the table's slices at exit.

@@ -36,7 +36,7 @@ fn is_labelled(text: &[u8]) -> bool
 }
 
 // The whole file, record by record; a refusal names the first that is not as it should be.
-fn check_form(file: &[u8]) -> Result<(), Refusal>
+fn form(file: &[u8]) -> Result<(), Refusal>
     ensures { form_says result file.now }
 {
     if 16384 < file.len() || !is_headed(file) {
@@ -65,7 +65,7 @@ fn check_form(file: &[u8]) -> Result<(), Refusal>
 pub(crate) fn read_head(file: &[u8]) -> Result<Head, Refusal>
     ensures { head_says result file.now }
 {
-    check_form(file)?;
+    form(file)?;
     let k = usize::from(file[2]);
     if !(1..=63).contains(&k) {
         return Err(Refusal {

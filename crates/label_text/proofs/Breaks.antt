@@ -42,7 +42,8 @@ lines_onto l (b ∷ s) = at_byte (eqb b 10) refl (lines_onto [] s) (lines_onto (
     At : List ℕ → Type 0
     At l' = lines_from l' s ≡ map trimmed (onto l' (cut s))
 
-    at_byte : (t : Bool) → eqb b 10 ≡ t → At [] → At (l ++ (b ∷ [])) → lines_from l (b ∷ s) ≡ map trimmed (onto l (cut (b ∷ s)))
+    at_byte : (t : Bool) → eqb b 10 ≡ t → At [] → At (l ++ (b ∷ []))
+        → lines_from l (b ∷ s) ≡ map trimmed (onto l (cut (b ∷ s)))
     at_byte true e new on = rw (e, append-nil, new, onto_none s)
     at_byte false e new on = rw (e, onto_more l b (cut s)) on
 

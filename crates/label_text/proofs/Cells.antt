@@ -12,7 +12,8 @@ use Rattle.dna.specs.Text.{part}
 pub length_part : (text : List ℕ) (at n : ℕ) → at + n ≤ length text → length (part text at n) ≡ n
 length_part text at n h = simp (length-take, length-drop) (omega arith)
 
-pub length_put : (at n : ℕ) (out line : List ℕ) → length line ≡ n → at + n ≤ length out → length (put_mid at n out line) ≡ length out
+pub length_put : (at n : ℕ) (out line : List ℕ) → length line ≡ n → at + n ≤ length out
+    → length (put_mid at n out line) ≡ length out
 length_put at n out line e h = same_len_mid at n out line (e ∙ sym (length_part out at n h))
 
 -- Two bytes and two more in front of others.
@@ -22,13 +23,20 @@ pub put_four : (at size : ℕ) (out mark count : List ℕ) → at + 4 ≤ length
 put_four at size out mark count h m n =
     let k : at + 4 - (at + 2) ≡ 2 = omega arith in
     let j : at + 2 - at ≡ 2 = omega arith in
-    let front : take (at + 2) (put_mid at 2 out mark) ≡ take at out ++ mark = take-put_mid at 2 out mark (at + 2) (omega arith) (omega arith) in
+    let front : take (at + 2) (put_mid at 2 out mark) ≡ take at out ++ mark =
+    take-put_mid at 2 out mark (at + 2) (omega arith) (omega arith) in
     let end : at + 2 + 2 ≡ at + 4 = omega arith in
     let behind : post_of (at + 2) 2 (put_mid at 2 out mark) ≡ drop (at + 4) out =
-    drop-drop 2 (at + 2) (put_mid at 2 out mark) ∙ rw end (drop-put_mid at 2 out mark (at + 4) (omega arith) (omega arith) m) in
+    drop-drop 2 (at + 2) (put_mid at 2 out mark)
+    ∙ rw end (drop-put_mid at 2 out mark (at + 4) (omega arith) (omega arith) m) in
     let both : List ℕ = (take at out ++ mark) ++ count in
     let size_is : at + 4 + size ≡ length both + size =
-    omega (arith, length-append (take at out ++ mark) count, length-append (take at out) mark, length-take-le at out (omega arith)) in
+    omega (
+      arith,
+      length-append (take at out ++ mark) count,
+      length-append (take at out) mark,
+      length-take-le at out (omega arith),
+    ) in
     rw (k, j, front, behind, ← append_assoc (take at out ++ mark) count (drop (at + 4) out), size_is, take-append-add)
     (simp append_assoc)
 

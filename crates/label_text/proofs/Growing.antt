@@ -25,16 +25,18 @@ module _ {out : List ℕ} {at size : ℕ} (room : Room out at size) where
 
   -- The mark and the size in front of another make it a record.
   pub closes_some : (size ≡ 0 → ⊥) → (mark count : List ℕ) → mark ≡ 76 ∷ 66 ∷ [] → count ≡ two_bytes size
-      → Closes out at size (at + 4 + size) (put_mid (at + 2) (at + 4 - (at + 2)) (put_mid at (at + 2 - at) out mark) count)
+      → Closes out at size (at + 4 + size)
+      (put_mid (at + 2) (at + 4 - (at + 2)) (put_mid at (at + 2 - at) out mark) count)
   closes_some u mark count m n =
       let end : at + 4 + size ≤ length out = omega (arith, room.long, room.letters u) in
+      let one = length_put at (at + 2 - at) out mark (ap length m ∙ omega arith) (omega arith) in
       let s : length (part out (at + 4) size) ≡ size = length_part out (at + 4) size end in
       record {
         room = record {
           long =
               length_put (at + 2) (at + 4 - (at + 2)) (put_mid at (at + 2 - at) out mark) count
-              (ap length n ∙ omega arith) (omega (arith, length_put at (at + 2 - at) out mark (ap length m ∙ omega arith) (omega arith)))
-              ∙ length_put at (at + 2 - at) out mark (ap length m ∙ omega arith) (omega arith) ∙ room.long;
+              (ap length n ∙ omega arith) (omega (arith, one))
+              ∙ one ∙ room.long;
           inside = room.letters u;
           letters = λ v. absurd (v refl);
         };

@@ -56,7 +56,8 @@ first_large [] ls h = absurd (not-suc-le-zero h)
 first_large (b ∷ l) ls h = omega (arith, length-append l (label_records (filled ls)))
 
 -- Lines that are joined to it, and records behind it, only add to them.
-joined_large : (l : List ℕ) (ls : List (List ℕ)) → 0 < length l → 4 + length l ≤ length (label_records (filled (sequences l ls)))
+joined_large : (l : List ℕ) (ls : List (List ℕ)) → 0 < length l
+    → 4 + length l ≤ length (label_records (filled (sequences l ls)))
 unfolding sequences
 joined_large l [] h = first_large l [] h
 joined_large l (x ∷ ls) h =
@@ -64,7 +65,8 @@ joined_large l (x ∷ ls) h =
     (λ _. first_large l (sequences [] ls) h)
     (λ _. omega (arith, length-append l x, joined_large (l ++ x) ls (omega (arith, length-append l x))))
 
-pub left_large : (fasta : Bool) (l : List ℕ) (ls : List (List ℕ)) → 0 < length l → 4 + length l ≤ length (label_records (left fasta l ls))
+pub left_large : (fasta : Bool) (l : List ℕ) (ls : List (List ℕ)) → 0 < length l
+    → 4 + length l ≤ length (label_records (left fasta l ls))
 unfolding left
 left_large true l ls h = joined_large l ls h
 left_large false l ls h = first_large l ls h

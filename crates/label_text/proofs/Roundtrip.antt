@@ -20,12 +20,14 @@ two_bytes_lem : (n : ℕ) → n < 65536 → n % 256 + 256 * (n / 256 % 256) ≡ 
 two_bytes_lem n h = omega arith
 
 -- Four are one below 2^32.
-four_bytes : (n : ℕ) → n < 2 ^ 32 → n % 256 + 256 * (n / 256 % 256) + 65536 * (n / 65536 % 256 + 256 * (n / 65536 / 256 % 256)) ≡ n
+four_bytes : (n : ℕ) → n < 2 ^ 32
+    → n % 256 + 256 * (n / 256 % 256) + 65536 * (n / 65536 % 256 + 256 * (n / 65536 / 256 % 256)) ≡ n
 four_bytes n h = omega arith
 
 module _ (K cutoff : ℕ) where
   -- Each record takes at least one turn's bytes, so that as many turns as bytes suffice.
-  records_read : (labels : List (List ℕ)) (most i : ℕ) → length (label_records labels) ≤ most → length (label_records labels) ≤ 16384
+  records_read : (labels : List (List ℕ)) (most i : ℕ) → length (label_records labels) ≤ most
+      → length (label_records labels) ≤ 16384
       → labels_from K cutoff most i (label_records labels) ≡ holds K cutoff labels
   unfolding labels_from label_records
   records_read [] zero i h g = refl
@@ -37,7 +39,8 @@ module _ (K cutoff : ℕ) where
       let n : length (l ++ rest) ≡ length l + length rest = length-append l rest in
       let size : two s 2 ≡ length l = two_bytes_lem (length l) (omega arith) in
       let end : 4 + length l ≡ suc (suc (suc (suc (length l)))) = omega arith in
-      let ih : labels_from K cutoff most (suc i) rest ≡ holds K cutoff ls = records_read ls most (suc i) (omega arith) (omega arith) in
+      let ih : labels_from K cutoff most (suc i) rest
+      ≡ holds K cutoff ls = records_read ls most (suc i) (omega arith) (omega arith) in
       rw (
         size,
         end,
@@ -55,12 +58,18 @@ module _ (K cutoff : ℕ) where
   unfolding file_of packed
   read_back labels c h =
       let s : List ℕ = head_record K cutoff ++ label_records labels in
-      rw (le-leb (length s) 16384 h, le-leb 2 (length s) (omega arith), le-leb 7 (length s) (omega arith), four_bytes cutoff c)
+      rw (
+        le-leb (length s) 16384 h,
+        le-leb 2 (length s) (omega arith),
+        le-leb 7 (length s) (omega arith),
+        four_bytes cutoff c,
+      )
       (records_read labels (length s) 1 (omega arith) (omega arith))
 
 -- The bytes that `pack` leaves in a slice say K, the cutoff and the labels of the text.
 pub packed_read_back : (K cutoff : ℕ) (text slice out : List ℕ) (n : ℕ) → cutoff < 2 ^ 32
-    → record { answer = Ok n; slice = out } ≡ pack_text K cutoff text slice → file_of (take n out) ≡ holds K cutoff (labels_in text)
+    → record { answer = Ok n; slice = out } ≡ pack_text K cutoff text slice
+    → file_of (take n out) ≡ holds K cutoff (labels_in text)
 unfolding pack_text
 packed_read_back K cutoff text slice out n c =
     choose Says (is_mixed text) (λ _ p. refused (ap answer_in p))
@@ -68,7 +77,8 @@ packed_read_back K cutoff text slice out n c =
     (λ t. choose Says (ltb (length slice) (length file)) (λ _ p. refused (ap answer_in p))
     (λ _ p. let r : ◌≡◌ {A = Result ℕ PackError} (Ok n) (Ok (length file)) = ap answer_in p in
     let e : n ≡ length file = cc in
-    rw (e, ap (λ (q : Packing). q.slice) p, take-append_seam file (drop (length file) slice)) (read_back K cutoff (labels_in text) c (ltb-false 16384 (length file) t)))))
+    rw (e, ap (λ (q : Packing). q.slice) p, take-append_seam file (drop (length file) slice))
+    (read_back K cutoff (labels_in text) c (ltb-false 16384 (length file) t)))))
   where
     file : List ℕ
     file = packed K cutoff (labels_in text)

@@ -29,7 +29,8 @@ packed_by (Err e) = Err pack.NoRoom
 
 -- A file copied into the slice, or left out where it does not fit, as t tells.
 packs_by : (file slice : List ℕ) (t : Bool) (r : Result ℕ NoRoom) (out : List ℕ)
-    → Writes r out (cond t (record { answer = refuses 9 []; slice = slice }) (record { answer = gives (length file); slice = over file slice }))
+    → Writes r out (cond t (record { answer = refuses 9 []; slice = slice })
+    (record { answer = gives (length file); slice = over file slice }))
     → Packs (packed_by r) out ≡ cond t (Packs (Err pack.NoRoom) slice) (Packs (Ok (length file)) (over file slice))
 packs_by file slice true (Ok n) out w = ungiven n 9 [] w.answer
 packs_by file slice true (Err e) out w = ap (Packs (Err pack.NoRoom)) w.slice

@@ -20,10 +20,12 @@ use Rattle.label_text.proofs.Remaining.{left_header, left_joined, left_plain, le
 -- The open label has so many letters.
 label_size : (out : List ℕ) (at size : ℕ) → Room out at size → length (part out (at + 4) size) ≡ size
 label_size out at zero r = refl
-label_size out at (suc size) r = length_part out (at + 4) (suc size) (omega (arith, r.long, r.letters (λ e. omega arith)))
+label_size out at (suc size) r =
+    length_part out (at + 4) (suc size) (omega (arith, r.long, r.letters (λ e. omega arith)))
 
 -- A label that is closed stays closed, whatever lines follow.
-closing : (fasta : Bool) (out : List ℕ) (at size : ℕ) (ls ms : List (List ℕ)) (r : ℕ) (out' : List ℕ) → Closes out at size r out'
+closing : (fasta : Bool) (out : List ℕ) (at size : ℕ) (ls ms : List (List ℕ)) (r : ℕ) (out' : List ℕ)
+    → Closes out at size r out'
     → label_records (left fasta (part out (at + 4) size) ls)
     ≡ label_records (filled (part out (at + 4) size ∷ [])) ++ label_records (left fasta [] ms)
     → whole fasta out at size ls ≡ whole fasta out' r 0 ms
@@ -42,12 +44,14 @@ module _ (line out : List ℕ) (at size : ℕ) (room : Room out at size) (fasta 
       )
 
   module _ (f : fasta ≡ true) where
-    pub header_closes : is_header line ≡ true → (r : ℕ) (out' : List ℕ) → Closes out at size r out' → Goes fasta line out at size r 0 out'
+    pub header_closes : is_header line ≡ true → (r : ℕ) (out' : List ℕ) → Closes out at size r out'
+        → Goes fasta line out at size r 0 out'
     header_closes h r out' c =
         record {
           room = c.room;
           plain = λ _. refl;
-          same = λ ls. rw f (closing true out at size (line ∷ ls) ls r out' c (left_header (part out (at + 4) size) line ls h));
+          same = λ ls.
+              rw f (closing true out at size (line ∷ ls) ls r out' c (left_header (part out (at + 4) size) line ls h));
         }
 
     pub line_joins : is_header line ≡ false → (r : Result Open TooLarge) (out' : List ℕ) → Joins line out at size r out'
@@ -69,7 +73,8 @@ module _ (line out : List ℕ) (at size : ℕ) (room : Room out at size) (fasta 
     none : part out (at + 4) size ≡ []
     none = rw e
 
-    pub line_closes : (mid : List ℕ) (a n : ℕ) → Grows line out at size a n mid → (r : ℕ) (out' : List ℕ) → Closes mid a n r out'
+    pub line_closes : (mid : List ℕ) (a n : ℕ) → Grows line out at size a n mid → (r : ℕ) (out' : List ℕ)
+        → Closes mid a n r out'
         → Goes fasta line out at size r 0 out'
     line_closes mid a n g r out' c =
         record {

@@ -15,7 +15,8 @@ use Rattle.label_text.proofs.Breaks.{cut, lines_after, lines_next, lines_cut}
 use Rattle.label_text.proofs.Remaining.{left_end}
 
 -- Some lines are left.
-pub record Partly (K cutoff : ℕ) (text : List ℕ) (fasta : Bool) (out : List ℕ) (at size : ℕ) (ls : List (List ℕ)) : Type 0 where
+pub record Partly (K cutoff : ℕ) (text : List ℕ) (fasta : Bool) (out : List ℕ) (at size : ℕ)
+    (ls : List (List ℕ)) : Type 0 where
   pub room : Room out at size
   pub plain : fasta ≡ false → size ≡ 0
   pub same : packed K cutoff (labels_in text) ≡ whole fasta out at size ls
@@ -30,7 +31,8 @@ left_all text = go (is_header text) refl
     go false e = rw e
 
 module _ (K cutoff : ℕ) (text : List ℕ) (fasta : Bool) where
-  pub partly_none : (out₀ out : List ℕ) → fasta ≡ is_header text → length out₀ ≡ 16384 → out ≡ over (head_record K cutoff) out₀
+  pub partly_none : (out₀ out : List ℕ) → fasta ≡ is_header text → length out₀ ≡ 16384
+      → out ≡ over (head_record K cutoff) out₀
       → Partly K cutoff text fasta out 7 0 (lines_after text 0)
   unfolding packed
   partly_none out₀ out f l e =
@@ -47,7 +49,8 @@ module _ (K cutoff : ℕ) (text : List ℕ) (fasta : Bool) where
   module _ {out : List ℕ} {at size : ℕ} where
     module _ {line : List ℕ} {ls : List (List ℕ)} (p : Partly K cutoff text fasta out at size (line ∷ ls)) where
       -- One line more.
-      pub partly_more : {a n : ℕ} {out' : List ℕ} → Goes fasta line out at size a n out' → Partly K cutoff text fasta out' a n ls
+      pub partly_more : {a n : ℕ} {out' : List ℕ} → Goes fasta line out at size a n out'
+          → Partly K cutoff text fasta out' a n ls
       partly_more g = record { room = g.room; plain = g.plain; same = p.same ∙ g.same ls }
 
       pub partly_large : ((ls : List (List ℕ)) → 16384 < length (whole fasta out at size (line ∷ ls)))

@@ -5,8 +5,8 @@ use Rattle.dna.specs.Text.{bytes}
 use Rattle.label_text.specs.Lines.{is_mixed, labels_in, open_lines}
 use Rattle.label_text.specs.Packing.{packed, open_packing}
 
--- FASTA, its second record with carriage returns; a record without a sequence, and no last newline; a plain text with an empty line; an
--- empty text.
+-- FASTA, its second record with carriage returns; a record without a sequence, and no last newline; a plain text with
+-- an empty line; an empty text.
 abbrev examples : List (String × List String)
 examples =
     (">one\nACC\nGT\n>two\r\nTT\r\nACGT\r\n", "ACCGT" ∷ "TTACGT" ∷ [])

@@ -1,5 +1,6 @@
 -- The labels of a text that people write: FASTA, or one label a line. Assumes nothing.
-use Rattle.std.specs.Prelude.{ℕ, ◌-◌, Bool, false, cond, not, ◌&&◌, ◌||◌, List, [], ◌∷◌, ◌++◌, eqb, length, take, get_or}
+use Rattle.std.specs.Prelude.{ℕ, ◌-◌, Bool, false, cond, not, ◌&&◌, ◌||◌, List, [], ◌∷◌, ◌++◌, eqb, length, take}
+use Rattle.std.specs.Prelude.{get_or}
 
 -- A line without a carriage return at its end, which some systems put before a newline.
 abbrev pub trimmed : List ℕ → List ℕ

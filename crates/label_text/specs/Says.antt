@@ -1,18 +1,20 @@
 -- What the parts of packing say. Assumes nothing.
-use Rattle.std.specs.Prelude.{ℕ, ◌+◌, ◌≤◌, ◌<◌, ◌≡◌, Bool, true, false, List, [], ◌∷◌, ◌++◌, length, take, Result, Ok, Err}
+use Rattle.std.specs.Prelude.{ℕ, ◌+◌, ◌≤◌, ◌<◌, ◌≡◌, Bool, true, false, List, [], ◌∷◌, ◌++◌, length, take, Result, Ok}
+use Rattle.std.specs.Prelude.{Err}
 use Rattle.dna.specs.Text.{part}
 use Rattle.label_text.specs.Lines.{sequences, filled, labels_in}
 use Rattle.label_text.specs.Packing.{label_records, packed}
 use Rattle.label_text.specs.declared.TooLarge.{TooLarge}
 use Rattle.label_text.specs.declared.packing.Open.{Open}
 
--- The labels that come of an open label and the lines behind it: in FASTA they are joined to it up to the next header; in a plain text
--- each is a label of its own.
+-- The labels that come of an open label and the lines behind it: in FASTA they are joined to it up to the next header;
+-- in a plain text each is a label of its own.
 unfoldable pub left : Bool → List ℕ → List (List ℕ) → List (List ℕ)
 left true l ls = filled (sequences l ls)
 left false l ls = filled (l ∷ ls)
 
--- The file that is to come of the records closed before a place, the open label four bytes behind it, and the lines left.
+-- The file that is to come of the records closed before a place, the open label four bytes behind it, and the lines
+-- left.
 abbrev pub whole : Bool → List ℕ → ℕ → ℕ → List (List ℕ) → List ℕ
 whole fasta out at size ls = take at out ++ label_records (left fasta (part out (at + 4) size) ls)
 

@@ -9,4 +9,5 @@ returns c =
     let file = c.args.file.now in
     let list = c.args.list.now in
     rw c.unwrap_or.ensures
-    (prints _ (judgement few_zeros file list) (rw c.requires at c.judge_list.ensures) (judgement_within few_zeros file list))
+    (prints _ (judgement few_zeros file list) (rw c.requires at c.judge_list.ensures)
+    (judgement_within few_zeros file list))

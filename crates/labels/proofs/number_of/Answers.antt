@@ -11,7 +11,8 @@ loop-digit-init c = read_none _ _ c.if-is_empty.ensures
 
 pub returns-then-not-is_ascii_digit : goal.returns-then-not-is_ascii_digit
 returns-then-not-is_ascii_digit c =
-    let l = c.loop-digit in read_other _ _ l.invariant c.loop-digit-test.true (sym c.if-not-is_ascii_digit.ensures.value)
+    let l = c.loop-digit in
+    read_other _ _ l.invariant c.loop-digit-test.true (sym c.if-not-is_ascii_digit.ensures.value)
 
 pub returns-then-from-x : goal.returns-then-from-x
 returns-then-from-x c =

@@ -32,4 +32,5 @@ pub returns-in-Err : goal.returns-in-Err
 returns-in-Err c =
     let a = c.args in
     let t = rw c.in_ok-vertices.was at c.take_labels.ensures in
-    judged_line a.file.now a.list.now a.keys.now a.counts.now a.marks.now c.in_ok-k.ensures t c.in-Err.ensures _ c.refused.ensures
+    judged_line a.file.now a.list.now a.keys.now a.counts.now a.marks.now c.in_ok-k.ensures t c.in-Err.ensures _
+    c.refused.ensures

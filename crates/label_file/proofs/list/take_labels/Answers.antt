@@ -16,4 +16,5 @@ returns-in-Ok c =
 
 pub returns-in-Err : goal.returns-in-Err
 returns-in-Err c =
-    takes_some _ _ _ _ c.index_labels-count.ensures c.add_labels-added.ensures c.unwrap-labels.ensures c.in-Err.is c.from.ensures
+    takes_some _ _ _ _ c.index_labels-count.ensures c.add_labels-added.ensures c.unwrap-labels.ensures
+    c.in-Err.is c.from.ensures

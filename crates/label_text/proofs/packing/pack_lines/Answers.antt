@@ -18,7 +18,8 @@ pub returns-in_err-open : goal.returns-in_err-open
 returns-in_err-open c =
     let a = c.args in
     let l = c.loop-line in
-    let lines = YieldsList-from_slice_split _ (λ b. eqb b 10) a.text.now (cc) (cc) (cc) (λ x b q k. search (rules, tests)) in
+    let lines =
+    YieldsList-from_slice_split _ (λ b. eqb b 10) a.text.now (cc) (cc) (cc) (λ x b q k. search (rules, tests)) in
     let turn = YieldsList-turn lines l.yielded _ l.yielded_by _ _ c.in-Some.line c.in-Some.is c.next.ensures.steps in
     let p = partly_next a.k a.cutoff a.text.now _ _ c.in-Some.line.now _ l.invariant turn.0 turn.1 c.trimmed.ensures in
     let e = err_from_is_err_and c.from_residual.result c.from_residual.ensures.1 in
@@ -28,7 +29,8 @@ pub loop-line-preserved : goal.loop-line-preserved
 loop-line-preserved c =
     let a = c.args in
     let l = c.loop-line in
-    let lines = YieldsList-from_slice_split _ (λ b. eqb b 10) a.text.now (cc) (cc) (cc) (λ x b q k. search (rules, tests)) in
+    let lines =
+    YieldsList-from_slice_split _ (λ b. eqb b 10) a.text.now (cc) (cc) (cc) (λ x b q k. search (rules, tests)) in
     let turn = YieldsList-turn lines l.yielded _ l.yielded_by _ _ c.in-Some.line c.in-Some.is c.next.ensures.steps in
     let p = partly_next a.k a.cutoff a.text.now _ _ c.in-Some.line.now _ l.invariant turn.0 turn.1 c.trimmed.ensures in
     rw (length_push l.yielded c.in-Some.line) (partly_more _ _ _ _ p c.in_ok-open.ensures)
@@ -37,6 +39,7 @@ pub returns : goal.returns
 returns c =
     let a = c.args in
     let l = c.loop-line in
-    let lines = YieldsList-from_slice_split _ (λ b. eqb b 10) a.text.now (cc) (cc) (cc) (λ x b q k. search (rules, tests)) in
+    let lines =
+    YieldsList-from_slice_split _ (λ b. eqb b 10) a.text.now (cc) (cc) (cc) (λ x b q k. search (rules, tests)) in
     let end = YieldsList-end lines l.yielded _ l.yielded_by _ _ c.in-None.is c.next.ensures.steps in
     partly_all a.k a.cutoff a.text.now _ (rw (lines_none a.text.now _ end.1) at l.invariant) c.close.ensures

@@ -2,7 +2,7 @@
 use Prim.Native.Nat.{◌-◌}
 use lib.ListN.{length}
 use Rattle.label_file.proofs.Remaining.{Remains}
-use Rattle.label_file.proofs.form.check_form.Given as goal
+use Rattle.label_file.proofs.form.form.Given as goal
 
 abbrev pub invariant-loop-at : goal.invariant-loop-at
 invariant-loop-at l = Remains l.file l.«record» l.at

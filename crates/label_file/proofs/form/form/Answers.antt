@@ -1,8 +1,9 @@
 use mathlib.Core.Path.{refl, sym, ◌∙◌}
 use borrow.Author.Rules.{part_to_end}
 use Rattle.label_file.proofs.Remaining.{too_long, headless, remains_all, remains_none, remains_bad, remains_next}
-use Rattle.label_file.proofs.form.check_form.Goals as goal
-use Rattle.label_file.proofs.form.check_form.Goals.{then-file-gt16384-via-then-file-gt16384, then-file-gt16384-via-else-file-gt16384+then-not-is_headed}
+use Rattle.label_file.proofs.form.form.Goals as goal
+use Rattle.label_file.proofs.form.form.Goals.{then-file-gt16384-via-then-file-gt16384}
+use Rattle.label_file.proofs.form.form.Goals.{then-file-gt16384-via-else-file-gt16384+then-not-is_headed}
 
 pub returns-then-file-gt16384 : goal.returns-then-file-gt16384
 returns-then-file-gt16384 c =
