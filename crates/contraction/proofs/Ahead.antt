@@ -1,4 +1,5 @@
--- The next label of the loop over all vertices: there is room for it, and it is written behind the others. Assumes nothing.
+-- The next label of the loop over all vertices: there is room for it, and it is written behind the others. Assumes
+-- nothing.
 use mathlib.Core.Path.{◌≡◌, sym, ap, ◌∙◌}
 use mathlib.Core.List.{List, [], ◌∷◌, ◌++◌}
 use Prim.Native.Nat.{ℕ, ◌+◌, ◌≤◌, ◌<◌}
@@ -28,7 +29,8 @@ pub record Ahead (K : ℕ) (keys trail : List ℕ) (from a labels at : ℕ) (buf
   pub start_room : labels < length starts
   pub length_room : labels < length lengths
 
-module _ {K : ℕ} {keys ms trail buffer starts lengths : List ℕ} {labels at from a : ℕ} {buffer' starts' lengths' : List ℕ}
+module _ {K : ℕ} {keys ms trail buffer starts lengths : List ℕ} {labels at from a : ℕ}
+    {buffer' starts' lengths' : List ℕ}
     (g : Listed K keys ms trail buffer starts lengths labels at from a buffer' starts' lengths')
     (l : a < length ms) (n : get_or trail from 0 ≡ 2 → ⊥) where
   abbrev ls : List (List ℕ)
@@ -49,8 +51,15 @@ module _ {K : ℕ} {keys ms trail buffer starts lengths : List ℕ} {labels at f
   text_next : end_to_end (run_in K keys ms (a + 1)).labels ≡ end_to_end ls ++ label
   text_next = ap end_to_end labels_next ∙ end_to_end_snoc ls label
 
-  total_next : length (end_to_end (run_in K keys ms (a + 1)).labels) ≡ at + length (label_from K (key keys a) (drop from trail))
-  total_next = omega (arith, ap length text_next, length-append (end_to_end ls) label, g.writes.total, ap length label_is)
+  total_next : length (end_to_end (run_in K keys ms (a + 1)).labels) ≡ at + length
+      (label_from K (key keys a) (drop from trail))
+  total_next = omega (
+    arith,
+    ap length text_next,
+    length-append (end_to_end ls) label,
+    g.writes.total,
+    ap length label_is,
+  )
 
   number_next : length (run_in K keys ms (a + 1)).labels ≡ labels + 1
   number_next = omega (arith, ap length labels_next, length-append ls (label ∷ []), g.writes.number)
@@ -95,7 +104,8 @@ module _ {K : ℕ} {keys ms trail buffer starts lengths : List ℕ} {labels at f
                 (ap (λ (ns : List (List ℕ)). starts_of (entries 0 ns)) labels_next ∙ starts_snoc ls label
                 ∙ ap (λ (z : ℕ). starts_of (entries 0 ls) ++ (z ∷ [])) (sym u.total));
             lengths_after =
-                over_one (lengths_of (entries 0 ls)) lengths labels w.bases v.lengths_after (u.number ∙ sym (length_lengths ls))
+                over_one (lengths_of (entries 0 ls)) lengths labels w.bases v.lengths_after
+                (u.number ∙ sym (length_lengths ls))
                 (omega (arith, ahead.length_room, g.long_lengths))
                 (ap (λ (ns : List (List ℕ)). lengths_of (entries 0 ns)) labels_next ∙ lengths_snoc ls label
                 ∙ ap (λ (z : ℕ). lengths_of (entries 0 ls) ++ (z ∷ [])) (sym (x.bases ∙ ap length label_is)));

@@ -18,7 +18,8 @@ entries_snoc : (at : ℕ) (ls : List (List ℕ)) (l : List ℕ)
 unfolding entries end_to_end
 entries_snoc at [] l = rw add-zero
 entries_snoc at (m ∷ ls) l =
-    let e : at + length m + length (end_to_end ls) ≡ at + length (m ++ end_to_end ls) = omega (arith, length-append m (end_to_end ls)) in
+    let e : at + length m + length (end_to_end ls) ≡ at + length
+    (m ++ end_to_end ls) = omega (arith, length-append m (end_to_end ls)) in
     ap (λ (es : List Entry). record { start = at; label = m } ∷ es) (entries_snoc (at + length m) ls l ∙ rw e)
 
 pub length_entries : (at : ℕ) (ls : List (List ℕ)) → length (entries at ls) ≡ length ls
@@ -33,8 +34,10 @@ module _ (ls : List (List ℕ)) where
   pub length_lengths : length (lengths_of (entries 0 ls)) ≡ length ls
   length_lengths = length-map (entries 0 ls) (λ (e : Entry). length e.label) ∙ length_entries 0 ls
 
-  pub starts_snoc : (l : List ℕ) → starts_of (entries 0 (ls ++ (l ∷ []))) ≡ starts_of (entries 0 ls) ++ (length (end_to_end ls) ∷ [])
+  pub starts_snoc : (l : List ℕ) → starts_of (entries 0 (ls ++ (l ∷ []))) ≡ starts_of (entries 0 ls) ++
+      (length (end_to_end ls) ∷ [])
   starts_snoc l = rw (entries_snoc 0 ls l, map-append, zero-add)
 
-  pub lengths_snoc : (l : List ℕ) → lengths_of (entries 0 (ls ++ (l ∷ []))) ≡ lengths_of (entries 0 ls) ++ (length l ∷ [])
+  pub lengths_snoc : (l : List ℕ) → lengths_of (entries 0 (ls ++ (l ∷ []))) ≡ lengths_of (entries 0 ls) ++
+      (length l ∷ [])
   lengths_snoc l = rw (entries_snoc 0 ls l, map-append)

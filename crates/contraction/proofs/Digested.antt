@@ -18,4 +18,7 @@ pub run_is : (κ : Kind) (K cutoff : ℕ) (keys counts ms₀ : List ℕ) (t : Fi
     → run_in K keys ms (length ms)
     ≡ run K (keys_of (length ms₀) keys) (ends_in κ cutoff (table_of (length ms₀) keys counts)) (length ms₀)
 unfolding ends_in
-run_is κ K cutoff keys counts ms₀ t digested = rw (long κ K cutoff keys counts ms₀ t digested, ends_are κ K cutoff keys counts ms₀ t digested)
+run_is κ K cutoff keys counts ms₀ t digested = rw (
+  long κ K cutoff keys counts ms₀ t digested,
+  ends_are κ K cutoff keys counts ms₀ t digested,
+)

@@ -22,7 +22,8 @@ use Rattle.marks.specs.Ready.{keys_for, Ready}
 use Rattle.contraction.specs.Over.{look_in, arrive_in}
 
 -- The k-mer y, with where it is found.
-module _ {K : ℕ} {keys ms : List ℕ} (r : Ready K keys ms) (a : ℕ) (start : Side) (y : ℕ) {f : Result ℕ ℕ} (ended : f ≡ find_in (keys_for ms keys) y) where
+module _ {K : ℕ} {keys ms : List ℕ} (r : Ready K keys ms) (a : ℕ) (start : Side) (y : ℕ) {f : Result ℕ ℕ}
+    (ended : f ≡ find_in (keys_for ms keys) y) where
   abbrev ks : List ℕ
   ks = keys_for ms keys
 
@@ -35,7 +36,8 @@ module _ {K : ℕ} {keys ms : List ℕ} (r : Ready K keys ms) (a : ℕ) (start :
       (λ p q. (p, cc)) (λ p q. absurd (cc)) (sym found ∙ e)
 
   pub look_found : {w : ℕ} → f ≡ Ok w → (t : Side) (b : ℕ) {st : Step}
-      → ((N : ℕ) (l : List ℕ) → st ≡ enter N l (ends ms) a start (visits ms) w t b) → st ≡ look_in K keys ms a start y t b
+      → ((N : ℕ) (l : List ℕ) → st ≡ enter N l (ends ms) a start (visits ms) w t b)
+      → st ≡ look_in K keys ms a start y t b
   look_found e t b enters = let p = found_at e in enters K ks ∙ rw (p.0, p.1)
 
   pub look_missing : {w : ℕ} → f ≡ Err w → (t : Side) (b : ℕ) → Missing ≡ look_in K keys ms a start y t b
@@ -43,7 +45,8 @@ module _ {K : ℕ} {keys ms : List ℕ} (r : Ready K keys ms) (a : ℕ) (start :
       choose (λ (g : Result ℕ ℕ). g ≡ Err w → Missing ≡ look_in K keys ms a start y t b) (stored ks y)
       (λ p q. absurd (cc)) (λ p q. rw p) (sym found ∙ e)
 
--- The k-mer y and its reverse complement o: the smaller is looked up, and whether it is y says by which side the vertex is entered.
+-- The k-mer y and its reverse complement o: the smaller is looked up, and whether it is y says by which side the vertex
+-- is entered.
 module _ (K : ℕ) (keys ms : List ℕ) (a : ℕ) (start : Side) (y b : ℕ) {o : ℕ} (other : o ≡ rc K y) {st : Step} where
   pub arrive_turned : ltb o y ≡ true → st ≡ look_in K keys ms a start o Back b → st ≡ arrive_in K keys ms a start y b
   unfolding arrive canon is_canon
@@ -52,7 +55,8 @@ module _ (K : ℕ) (keys ms : List ℕ) (a : ℕ) (start : Side) (y b : ℕ) {o 
       let c : min y (rc K y) ≡ o = omega arith in
       e ∙ rw (c, lt-leb y (rc K y) (omega arith))
 
-  pub arrive_straight : ltb o y ≡ false → st ≡ look_in K keys ms a start y Front b → st ≡ arrive_in K keys ms a start y b
+  pub arrive_straight : ltb o y ≡ false → st ≡ look_in K keys ms a start y Front b
+      → st ≡ arrive_in K keys ms a start y b
   unfolding arrive canon is_canon
   arrive_straight h e =
       let l = ltb-false o y h in

@@ -29,7 +29,8 @@ use Rattle.marks.proofs.Still.{ready_still}
 use Rattle.contraction.proofs.Trailing.{run_same, trails_over}
 
 -- The marks are those that the table's words give, and all walks were followed over them.
-module _ (κ : Kind) (K cutoff : ℕ) (keys counts labels starts lengths ms₀ : List ℕ) (t : FitTable K keys counts ms₀) {ms : List ℕ}
+module _ (κ : Kind) (K cutoff : ℕ) (keys counts labels starts lengths ms₀ : List ℕ)
+    (t : FitTable K keys counts ms₀) {ms : List ℕ}
     (d : ms ≡ over (map (mark_of κ cutoff) (take (length ms₀) counts)) ms₀) where
   abbrev all : Run
   all = run K (keys_of (length ms₀) keys) (ends_in κ cutoff (table_of (length ms₀) keys counts)) (length ms₀)
@@ -43,13 +44,21 @@ module _ (κ : Kind) (K cutoff : ℕ) (keys counts labels starts lengths ms₀ :
       e ∙ ap (λ (n : ℕ). replicate n 0) l
       ∙ sym (over_all (replicate (length ms₀) 0) ms₀ (length-replicate {A = ℕ} (length ms₀) 0))
 
-  pub missing_vertex : (run_in K keys ms (length ms)).missed ≡ true → (after : List ℕ) {marks : List ℕ} → marks ≡ replicate (length after) 0
+  pub missing_vertex : (run_in K keys ms (length ms)).missed ≡ true → (after : List ℕ) {marks : List ℕ}
+      → marks ≡ replicate (length after) 0
       → length after ≡ length ms₀
-      → Contracts (Err MissingVertex) labels starts lengths marks (finish_in κ K cutoff (length ms₀) keys counts labels starts lengths ms₀)
+      → Contracts (Err MissingVertex) labels starts lengths marks
+      (finish_in κ K cutoff (length ms₀) keys counts labels starts lengths ms₀)
   unfolding finish
   missing_vertex h after e l =
       let m : all.missed ≡ true = sym (ap (λ (r : Run). r.missed) same) ∙ h in
-      rw m (record { answer = refl; labels_after = refl; starts_after = refl; lengths_after = refl; marks_after = zeros after e l })
+      rw m (record {
+        answer = refl;
+        labels_after = refl;
+        starts_after = refl;
+        lengths_after = refl;
+        marks_after = zeros after e l;
+      })
 
   module _ {number bases : ℕ} {after : List ℕ} (s : Surveys K keys ms (length ms) number bases after) where
     found : all.missed ≡ false
@@ -68,13 +77,21 @@ module _ (κ : Kind) (K cutoff : ℕ) (keys counts labels starts lengths ms₀ :
         || ltb (length lengths) (length all.labels)) ≡ lacking
     lacking_is = rw (bases_is, number_is)
 
-    pub no_room : {short : Bool} → short ≡ lacking → short ≡ true → {marks : List ℕ} → marks ≡ replicate (length after) 0
+    pub no_room : {short : Bool} → short ≡ lacking → short ≡ true → {marks : List ℕ}
+        → marks ≡ replicate (length after) 0
         → length after ≡ length ms₀
-        → Contracts (Err NoRoom) labels starts lengths marks (finish_in κ K cutoff (length ms₀) keys counts labels starts lengths ms₀)
+        → Contracts (Err NoRoom) labels starts lengths marks
+        (finish_in κ K cutoff (length ms₀) keys counts labels starts lengths ms₀)
     unfolding finish
     no_room q k e l =
         rw (found, lacking_is, ← q, k)
-        (record { answer = refl; labels_after = refl; starts_after = refl; lengths_after = refl; marks_after = zeros after e l })
+        (record {
+          answer = refl;
+          labels_after = refl;
+          starts_after = refl;
+          lengths_after = refl;
+          marks_after = zeros after e l;
+        })
 
     module _ {short : Bool} (q : short ≡ lacking) (k : short ≡ false) where
       room : Roomy K keys ms (length labels) (length starts) (length lengths)
@@ -86,20 +103,32 @@ module _ (κ : Kind) (K cutoff : ℕ) (keys counts labels starts lengths ms₀ :
           record {
             bases_fit = omega (arith, ltb-false (length labels) bases (or_first few_bytes few_starts l), s.total);
             starts_fit = omega (arith, ltb-false (length starts) number (or_second few_bytes few_starts l), s.number);
-            lengths_fit = omega (arith, ltb-false (length lengths) number (or_second (few_bytes || few_starts) few_lengths (sym q ∙ k)), s.number);
+            lengths_fit = omega (
+              arith,
+              ltb-false (length lengths) number
+                  (or_second (few_bytes || few_starts) few_lengths (sym q ∙ k)),
+              s.number,
+            );
           }
 
       -- The walks have left the ends as they were.
       run_after : run_in K keys after (length after) ≡ run_in K keys ms (length ms)
-      run_after = run_same K keys ms after s.ends_kept (length after) ∙ ap (run_in K keys ms) (ends_length ms after s.ends_kept)
+      run_after = run_same K keys ms after s.ends_kept (length after)
+          ∙ ap (run_in K keys ms) (ends_length ms after s.ends_kept)
 
-      pub writable : (slice : List ℕ) → 131072 ≤ length slice → {trail : List ℕ} → trail ≡ over (trail_in K keys ms (length ms)) slice
-          → Ready K keys after × Trails K keys after trail × Roomy K keys after (length labels) (length starts) (length lengths)
+      pub writable : (slice : List ℕ) → 131072 ≤ length slice → {trail : List ℕ}
+          → trail ≡ over (trail_in K keys ms (length ms)) slice
+          → Ready K keys after × Trails K keys after trail
+          × Roomy K keys after (length labels) (length starts) (length lengths)
       writable slice w e =
           let r = ready κ K cutoff keys counts ms₀ t d in (
             ready_still r s.ends_kept,
             trails_over r s.ends_kept slice (omega (arith, r.few)) e,
-            record { bases_fit = rw run_after room.bases_fit; starts_fit = rw run_after room.starts_fit; lengths_fit = rw run_after room.lengths_fit },
+            record {
+              bases_fit = rw run_after room.bases_fit;
+              starts_fit = rw run_after room.starts_fit;
+              lengths_fit = rw run_after room.lengths_fit;
+            },
           )
 
       pub contracted : {marks labels' starts' lengths' : List ℕ}

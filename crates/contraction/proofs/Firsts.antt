@@ -28,7 +28,8 @@ record Wider (rest : List ℕ) (c d : Contracted) : Type 0 where
   lengths : c.lengths ≡ d.lengths
   marks : c.marks ++ rest ≡ d.marks
 
-arms : (P : Contracted → Contracted → Type 0) (t : Bool) {a b c d : Contracted} → P a c → P b d → P (cond t a b) (cond t c d)
+arms : (P : Contracted → Contracted → Type 0) (t : Bool) {a b c d : Contracted} → P a c → P b d
+    → P (cond t a b) (cond t c d)
 arms P true p q = p
 arms P false p q = q
 
@@ -47,16 +48,22 @@ module _ (κ : Kind) (K cutoff n : ℕ) (keys counts labels starts lengths marks
       (record { answer = refl; labels = refl; starts = refl; lengths = refl; marks = zeros })
       (record { answer = refl; labels = refl; starts = refl; lengths = refl; marks = over_first r.marks marks n l h }))
 
-  pub first_marks : FitTable K keys counts (take n marks) → {z : Result Unitigs ContractError} {labels' starts' lengths' marks' : List ℕ}
+  pub first_marks : FitTable K keys counts (take n marks)
+      → {z : Result Unitigs ContractError} {labels' starts' lengths' marks' : List ℕ}
       → Contracts z labels' starts' lengths' marks'
       (finish_in κ K cutoff (length (take n marks)) keys counts labels starts lengths (take n marks))
-      → Contracts z labels' starts' lengths' (marks' ++ drop n marks) (finish_in κ K cutoff n keys counts labels starts lengths marks)
+      → Contracts z labels' starts' lengths' (marks' ++ drop n marks)
+      (finish_in κ K cutoff n keys counts labels starts lengths marks)
   first_marks t c₀ =
       let e : length (take n marks) ≡ n = length-take-le n marks h in
       let k : n ≤ length (keys_of n keys) = omega (arith, t.room, keys_length n keys) in
       let c = rw e at c₀ in
       let w = finish_wider (run K (keys_of n keys) (ends_in κ cutoff (table_of n keys counts)) n)
-      (omega (arith, (run_toured K (keys_of n keys) (ends_in κ cutoff (table_of n keys counts)) n k).long, keys_length n keys)) in
+      (omega (
+        arith,
+        (run_toured K (keys_of n keys) (ends_in κ cutoff (table_of n keys counts)) n k).long,
+        keys_length n keys,
+      )) in
       record {
         answer = c.answer ∙ w.answer;
         labels_after = c.labels_after ∙ w.labels;

@@ -1,4 +1,5 @@
--- Entries whose labels stand in a buffer and all differ: sorted by the buffer's bytes they are the definition's. Assumes nothing.
+-- Entries whose labels stand in a buffer and all differ: sorted by the buffer's bytes they are the definition's.
+-- Assumes nothing.
 use mathlib.Core.Path.{◌≡◌, refl, sym, ap, ◌∙◌}
 use mathlib.Core.Bool.{Bool, true, false, cond, not, ◌&&◌, ◌||◌, false≢true}
 use mathlib.Core.List.{List, [], ◌∷◌, ◌++◌, map, map-map}
@@ -22,7 +23,8 @@ use Rattle.contraction.specs.Says.{starts_of, lengths_of, Ordered}
 use Rattle.dna.proofs.Overwriting.{over_over}
 
 -- Where both slices have so many entries, sorting puts them in order.
-pub ordered : {t : Bool} {b s l s' l' : List ℕ} {n : ℕ} → n ≤ length s → n ≤ length l → Sorts t b s l n s' l' → Ordered b s l n s' l'
+pub ordered : {t : Bool} {b s l s' l' : List ℕ} {n : ℕ} → n ≤ length s → n ≤ length l → Sorts t b s l n s' l'
+    → Ordered b s l n s' l'
 ordered {s = s} {l = l} {n = n} h k S =
     let hs = le-leb n (length s) h in
     let hl = le-leb n (length l) k in
@@ -31,7 +33,8 @@ ordered {s = s} {l = l} {n = n} h k S =
 abbrev spot_of : Entry → Spot
 spot_of e = record { start = e.start; length = length e.label }
 
-spots_of : (es : List Entry) (s l : List ℕ) → spots (length es) (starts_of es ++ s) (lengths_of es ++ l) ≡ map spot_of es
+spots_of : (es : List Entry) (s l : List ℕ) → spots (length es) (starts_of es ++ s)
+    (lengths_of es ++ l) ≡ map spot_of es
 unfolding spots
 spots_of [] s l = refl
 spots_of (e ∷ es) s l = ap (λ (z : List Spot). spot_of e ∷ z) (spots_of es s l)
@@ -52,7 +55,8 @@ module _ (b : List ℕ) where
       let tie : Bool = ltb x.start y.start || eqb x.start y.start && ltb (length x.label) (length y.label) in
       rw (p, q)
       (first_of (before x.label y.label) (before y.label x.label) tie
-      (λ h. ⊎_elim (λ k. k) (λ k. absurd (f (before_same y.label x.label k h))) (true_or_false (before y.label x.label))))
+      (λ h. ⊎_elim (λ k. k) (λ k. absurd (f (before_same y.label x.label k h)))
+      (true_or_false (before y.label x.label))))
 
   put_spots : (e : Entry) {xs : List Entry} → Reads e → Each Reads xs → Each (λ x. e.label ≡ x.label → ⊥) xs
       → map spot_of (put_in e xs) ≡ put_by (comes_first b) (spot_of e) (map spot_of xs)
@@ -63,7 +67,8 @@ module _ (b : List ℕ) where
     where
       go : (t : Bool) → map spot_of (put_in e xs) ≡ put_by (comes_first b) (spot_of e) (map spot_of xs)
           → map spot_of (cond t (x ∷ put_in e xs) (e ∷ x ∷ xs))
-          ≡ cond t (spot_of x ∷ put_by (comes_first b) (spot_of e) (map spot_of xs)) (spot_of e ∷ spot_of x ∷ map spot_of xs)
+          ≡ cond t (spot_of x ∷ put_by (comes_first b) (spot_of e) (map spot_of xs))
+          (spot_of e ∷ spot_of x ∷ map spot_of xs)
       go true k = ap (λ (z : List Spot). spot_of x ∷ z) k
       go false k = refl
 
@@ -78,20 +83,24 @@ module _ (b : List ℕ) where
   module _ {es : List Entry} (r : Each Reads es) (a : Apart (λ e. e.label) es) (s l : List ℕ) where
     in_place : sorted_spots b (length es) (over (starts_of es) s) (over (lengths_of es) l) ≡ map spot_of (sorted es)
     in_place =
-        ap (sort_by (comes_first b)) (spots_of es (drop (length (starts_of es)) s) (drop (length (lengths_of es)) l)) ∙ sym (sorted_spots_lem r a)
+        ap (sort_by (comes_first b)) (spots_of es (drop (length (starts_of es)) s) (drop (length (lengths_of es)) l))
+        ∙ sym (sorted_spots_lem r a)
 
     as_many : length (sorted es) ≡ length es
     as_many =
-        sym (length-map (sorted es) spot_of) ∙ ap length (sorted_spots_lem r a) ∙ sort_length (comes_first b) (map spot_of es)
+        sym (length-map (sorted es) spot_of) ∙ ap length (sorted_spots_lem r a)
+        ∙ sort_length (comes_first b) (map spot_of es)
         ∙ length-map es spot_of
 
     -- A column of the index.
     column : (f : Spot → ℕ) (old : List ℕ)
-        → over (map f (sorted_spots b (length es) (over (starts_of es) s) (over (lengths_of es) l))) (over (map (λ e. f (spot_of e)) es) old)
+        → over (map f (sorted_spots b (length es) (over (starts_of es) s) (over (lengths_of es) l)))
+        (over (map (λ e. f (spot_of e)) es) old)
         ≡ over (map (λ e. f (spot_of e)) (sorted es)) old
     column f old =
         let g : Entry → ℕ = λ e. f (spot_of e) in
-        ap (λ (z : List ℕ). over z (over (map (λ e. f (spot_of e)) es) old)) (ap (map f) in_place ∙ map-map f spot_of (sorted es))
+        ap (λ (z : List ℕ). over z (over (map (λ e. f (spot_of e)) es) old))
+        (ap (map f) in_place ∙ map-map f spot_of (sorted es))
         ∙ over_over (map (λ e. f (spot_of e)) es) (map (λ e. f (spot_of e)) (sorted es)) old
         (omega (arith, length-map es g, length-map (sorted es) g, as_many))
 

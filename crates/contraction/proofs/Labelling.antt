@@ -1,4 +1,5 @@
--- An anchor's label from its two walks: its length, whether a vertex was missing, and the marks that the walks leave. Assumes nothing.
+-- An anchor's label from its two walks: its length, whether a vertex was missing, and the marks that the walks leave.
+-- Assumes nothing.
 use mathlib.Core.Path.{◌≡◌, refl, sym, ap, ◌∙◌}
 use mathlib.Core.Bool.{Bool, true, false, cond, or-true}
 use mathlib.Core.List.{List, ◌++◌, map}
@@ -32,13 +33,15 @@ spelt_length K x w =
     omega (arith, length-append (letters K x) (map letter_of w.bases), length_letters K x, length-map w.bases letter_of)
 
 module _ (K : ℕ) (ks : List ℕ) (es : List Ends) (x : ℕ) (back front : Walk) where
-  label_length : length (label_of K ks es x back front) ≡ cond (closed back.last) K (K + length front.bases) + length back.bases
+  label_length : length (label_of K ks es x back front) ≡ cond (closed back.last) K
+      (K + length front.bases) + length back.bases
   label_length =
       let turned = reverse_complement (spelt K (rc K x) front) in
       let text = cond (closed back.last) (spelt K x back) (turned ++ map letter_of back.bases) in
       lesser_length text ∙ go (closed back.last)
     where
-      go : (t : Bool) → length (cond t (spelt K x back) (reverse_complement (spelt K (rc K x) front) ++ map letter_of back.bases))
+      go : (t : Bool) → length (cond t (spelt K x back)
+          (reverse_complement (spelt K (rc K x) front) ++ map letter_of back.bases))
           ≡ cond t K (K + length front.bases) + length back.bases
       go true = spelt_length K x back
       go false = omega (
@@ -55,19 +58,22 @@ closed_found (Next v s b) h = refl
 closed_found (Stop why) h = refl
 closed_found Missing h = sym h
 
-module _ {K : ℕ} {keys ms : List ℕ} (r : Ready K keys ms) (a : ℕ) {b : Walked} {ms₁ : List ℕ} (back : Walks K keys ms a Back b ms₁) where
+module _ {K : ℕ} {keys ms : List ℕ} (r : Ready K keys ms) (a : ℕ) {b : Walked} {ms₁ : List ℕ}
+    (back : Walks K keys ms a Back b ms₁) where
   abbrev B : Walk
   B = walk_in K keys ms a Back
 
   abbrev F : Walk
   F = walk K (keys_for ms keys) (ends ms) a Front B.marks
 
-  label_long : {t : Bool} → closed b.last ≡ t → length (label_in K keys ms a) ≡ cond t K (K + length F.bases) + length B.bases
+  label_long : {t : Bool} → closed b.last ≡ t → length (label_in K keys ms a) ≡ cond t K
+      (K + length F.bases) + length B.bases
   label_long c =
       label_length K (keys_for ms keys) (ends ms) (get_or (keys_for ms keys) a 0) B F
       ∙ ap (λ (t : Bool). cond t K (K + length F.bases) + length B.bases) (ap closed (sym back.last) ∙ c)
 
-  pub extracts_closed : closed b.last ≡ true → {trail trail' : List ℕ} {at end : ℕ} → end ≡ at + length (piece_in K keys ms a)
+  pub extracts_closed : closed b.last ≡ true → {trail trail' : List ℕ} {at end : ℕ}
+      → end ≡ at + length (piece_in K keys ms a)
       → Placed trail at (piece_in K keys ms a) trail'
       → Extracts K keys ms a (record { bases = K + b.bases; end = end }) ms₁ trail at trail'
   unfolding extract
@@ -102,7 +108,8 @@ module _ {K : ℕ} {keys ms : List ℕ} (r : Ready K keys ms) (a : ℕ) {b : Wal
     misses_front c h = record { error = refl; missed = rw (← back.last, ← front_last, c, h) (or-true (missing b.last)) }
 
     pub extracts_open : closed b.last ≡ false → missing b.last ≡ false → missing f.last ≡ false
-        → {trail trail' : List ℕ} {at end : ℕ} → end ≡ at + length (piece_in K keys ms a) → Placed trail at (piece_in K keys ms a) trail'
+        → {trail trail' : List ℕ} {at end : ℕ} → end ≡ at + length (piece_in K keys ms a)
+        → Placed trail at (piece_in K keys ms a) trail'
         → Extracts K keys ms a (record { bases = K + f.bases + b.bases; end = end }) ms₂ trail at trail'
     unfolding extract
     extracts_open h m n q p =

@@ -15,7 +15,8 @@ use Rattle.contraction.proofs.Standing.{Standing, skips_here, place_skipped}
 use Rattle.contraction.proofs.Running.{run_skips}
 
 -- The first a vertices are done; the next is read from a place of the trail on.
-pub record Listed (K : ℕ) (keys ms trail buffer starts lengths : List ℕ) (labels at from a : ℕ) (buffer' starts' lengths' : List ℕ) : Type 0 where
+pub record Listed (K : ℕ) (keys ms trail buffer starts lengths : List ℕ) (labels at from a : ℕ)
+    (buffer' starts' lengths' : List ℕ) : Type 0 where
   pub ready : Ready K keys ms
   pub trails : Trails K keys ms trail
   pub roomy : Roomy K keys ms (length buffer) (length starts) (length lengths)
@@ -41,10 +42,16 @@ listed_none K keys ms trail buffer starts lengths r t o = record {
   long_buffer = refl;
   long_starts = refl;
   long_lengths = refl;
-  writes = record { number = refl; total = refl; lists = record { letters = refl; starts_after = refl; lengths_after = refl } };
+  writes = record {
+    number = refl;
+    total = refl;
+    lists = record
+        { letters = refl; starts_after = refl; lengths_after = refl };
+  };
 }
 
-module _ {K : ℕ} {keys ms trail buffer starts lengths : List ℕ} {labels at from a : ℕ} {buffer' starts' lengths' : List ℕ}
+module _ {K : ℕ} {keys ms trail buffer starts lengths : List ℕ} {labels at from a : ℕ}
+    {buffer' starts' lengths' : List ℕ}
     (g : Listed K keys ms trail buffer starts lengths labels at from a buffer' starts' lengths') where
   -- Behind the last vertex.
   pub listed_all : length ms ≤ a →
@@ -52,16 +59,19 @@ module _ {K : ℕ} {keys ms trail buffer starts lengths : List ℕ} {labels at f
       Writes K keys ms (length ms) labels total buffer buffer' starts starts' lengths lengths'
   listed_all h =
       let e : a ≡ length ms = omega (arith, g.below) in
-      let w = subst (λ (n : ℕ). Writes K keys ms n labels at buffer buffer' starts starts' lengths lengths') e g.writes in
+      let w = subst (λ (n : ℕ). Writes K keys ms n labels at buffer buffer' starts starts' lengths lengths') e g.writes
+      in
       subst (λ (n : ℕ). Writes K keys ms (length ms) labels n buffer buffer' starts starts' lengths lengths') w.total w
 
   module _ (l : a < length ms) where
     pub standing : Standing K keys ms trail from a
     standing = record { ready = g.ready; trails = g.trails; place = g.place; vertex = l }
 
-    pub listed_skip : get_or trail from 0 ≡ 2 → Listed K keys ms trail buffer starts lengths labels at (from + 1) (a + 1) buffer' starts' lengths'
+    pub listed_skip : get_or trail from 0 ≡ 2 → Listed K keys ms trail buffer starts lengths labels at (from + 1)
+        (a + 1) buffer' starts' lengths'
     listed_skip y =
-        let e : run_in K keys ms (a + 1) ≡ run_in K keys ms a = run_skips K (keys_for ms keys) (ends ms) a (skips_here standing y) in
+        let e : run_in K keys ms (a + 1) ≡ run_in K keys ms a = run_skips K (keys_for ms keys) (ends ms) a
+        (skips_here standing y) in
         record {
           ready = g.ready;
           trails = g.trails;

@@ -21,16 +21,20 @@ bases_of_lem ps = map (λ (p : Place). p.base) ps
 
 module _ {K : ℕ} {ks : List ℕ} {es : List Ends} {a : ℕ} {start : Side} where
   trail_on : {marks after bs : List ℕ} {v u b : ℕ} {s t : Side} {ps : List Place} {last : Step}
-      → Trail K ks es a start marks v s ps after last → bs ≡ bases_of_lem ps → step K ks es a start marks v s ≡ Next u t b
-      → (bs ≡ b ∷ drop 1 bs) × Went K ks es a start (set marks u 1) u t (record { bases = drop 1 bs; marks = after; last = last })
+      → Trail K ks es a start marks v s ps after last → bs ≡ bases_of_lem ps
+      → step K ks es a start marks v s ≡ Next u t b
+      → (bs ≡ b ∷ drop 1 bs) × Went K ks es a start (set marks u 1) u t
+      (record { bases = drop 1 bs; marks = after; last = last })
   trail_on (ends {st = st} e h) q f = absurd (never (is_next st) (ap is_next (sym e ∙ f)) h)
   trail_on {u = u} {b = b} {t = t} (goes {u = u₁} {b = b₁} {t = t₁} {ps = ps} e r) q f =
       let same : Next u₁ t₁ b₁ ≡ Next u t b = sym e ∙ f in
       let eu : u₁ ≡ u = cc in
       let et : t₁ ≡ t = cc in
       let eb : b₁ ≡ b = cc in
-      let all = q ∙ ap (λ (x : ℕ). x ∷ bases_of_lem ps) eb in
-      (all ∙ sym (ap (λ (l : List ℕ). b ∷ drop 1 l) all), record { places = ps; trail = rw (eu, et) at r; bases = ap (drop 1) all })
+      let all = q ∙ ap (λ (x : ℕ). x ∷ bases_of_lem ps) eb in (
+        all ∙ sym (ap (λ (l : List ℕ). b ∷ drop 1 l) all),
+        record { places = ps; trail = rw (eu, et) at r; bases = ap (drop 1) all },
+      )
 
   -- A step that leads on takes the first of the bases.
   pub went_on : {marks : List ℕ} {v u b : ℕ} {s t : Side} {w : Walk} → Went K ks es a start marks v s w
@@ -38,8 +42,10 @@ module _ {K : ℕ} {ks : List ℕ} {es : List Ends} {a : ℕ} {start : Side} whe
       → (w.bases ≡ b ∷ drop 1 w.bases) × Went K ks es a start (set marks u 1) u t (rest 1 w)
   went_on g f = trail_on g.trail g.bases f
 
-  trail_stops : {marks after : List ℕ} {v : ℕ} {s : Side} {ps : List Place} {last st : Step} → Trail K ks es a start marks v s ps after last
-      → step K ks es a start marks v s ≡ st → is_next st ≡ false → (bases_of_lem ps ≡ []) × (marks ≡ after) × (st ≡ last)
+  trail_stops : {marks after : List ℕ} {v : ℕ} {s : Side} {ps : List Place} {last st : Step}
+      → Trail K ks es a start marks v s ps after last
+      → step K ks es a start marks v s ≡ st → is_next st ≡ false → (bases_of_lem ps ≡ []) × (marks ≡ after)
+      × (st ≡ last)
   trail_stops (ends e h) f n = (refl, refl, sym f ∙ e)
   trail_stops {st = st} (goes e r) f n = absurd (never (is_next st) (ap is_next (sym f ∙ e)) n)
 

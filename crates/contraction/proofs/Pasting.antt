@@ -30,7 +30,8 @@ put_back buffer text at n h e =
 
 -- A part written over by a text of its length.
 put_over : (buffer given text : List ℕ) (at n : ℕ) → at + n ≤ length buffer → length text ≡ n
-    → given ≡ over text (mid_of at (at + n - at) buffer) → put_mid at (at + n - at) buffer given ≡ paste buffer at text n
+    → given ≡ over text (mid_of at (at + n - at) buffer)
+    → put_mid at (at + n - at) buffer given ≡ paste buffer at text n
 put_over buffer given text at n h e g =
     let m : at + n - at ≡ n = omega arith in
     let q : given ≡ text = rw m at g ∙ over_all text (part buffer at n) (e ∙ sym (part_length buffer at n h)) in
@@ -39,7 +40,9 @@ put_over buffer given text at n h e g =
 -- A k-mer's letters written into a part of as many cells.
 pub put_letters : (K x : ℕ) → ok_k K ≡ true → x < 4 ^ K → (buffer : List ℕ) (at : ℕ) → at + K ≤ length buffer
     → (r : Result ℕ KmerError) (given : List ℕ)
-    → Spells r given (letters_call K x (mid_of at (at + K - at) buffer)) → put_mid at (at + K - at) buffer given ≡ paste buffer at (letters K x) K
+    → Spells r given (letters_call K x (mid_of at (at + K - at) buffer))
+    → put_mid at (at + K - at) buffer given ≡ paste buffer at (letters K x) K
 put_letters K x ok small buffer at h r given t =
     let l : K ≤ length (mid_of at (at + K - at) buffer) = omega (arith, mid_len at (at + K) buffer h) in
-    put_over buffer given (letters K x) at K h (length_letters K x) (letters_given K x ok small r given (mid_of at (at + K - at) buffer) l t).1
+    put_over buffer given (letters K x) at K h (length_letters K x)
+    (letters_given K x ok small r given (mid_of at (at + K - at) buffer) l t).1

@@ -1,4 +1,5 @@
--- The trail under way, one vertex after the other: what each gives stands behind what those before it gave. Assumes nothing.
+-- The trail under way, one vertex after the other: what each gives stands behind what those before it gave. Assumes
+-- nothing.
 use mathlib.Core.Path.{◌≡◌, refl, sym, ap, ◌∙◌}
 use mathlib.Core.Bool.{Bool, true, false, cond, ◌||◌}
 use mathlib.Core.List.{List, [], ◌∷◌, ◌++◌}
@@ -28,7 +29,8 @@ unfolding trail_in
 paving_start K keys ms trail h = record { wide = h; place = refl; paved = refl }
 
 module _ {K : ℕ} {keys ms : List ℕ} {a labels bases : ℕ} {marks : List ℕ}
-    (g : Surveying K keys ms a labels bases marks) {trail now : List ℕ} {at : ℕ} (p : Paving K keys ms a trail at now) where
+    (g : Surveying K keys ms a labels bases marks) {trail now : List ℕ} {at : ℕ}
+    (p : Paving K keys ms a trail at now) where
   pub paving_length : length now ≡ length trail
   paving_length =
       ap length p.paved
@@ -58,7 +60,12 @@ module _ {K : ℕ} {keys ms : List ℕ} {a labels bases : ℕ} {marks : List ℕ
 
     module _ (e : false ≡ (visited (visits marks) a || isolated (ends marks) a)) where
       long : length (trail_in K keys ms (a + 1)) ≡ at + length (piece_in K keys marks a)
-      long = omega (arith, p.place, ap length (trail_on e), length-append (trail_in K keys ms a) (piece_in K keys marks a))
+      long = omega (
+        arith,
+        p.place,
+        ap length (trail_on e),
+        length-append (trail_in K keys ms a) (piece_in K keys marks a),
+      )
 
       pub piece_fits : at + length (piece_in K keys marks a) ≤ length now
       piece_fits = omega (arith, long, short, paving_length)
@@ -69,5 +76,6 @@ module _ {K : ℕ} {keys ms : List ℕ} {a labels bases : ℕ} {marks : List ℕ
         wide = p.wide;
         place = x.end ∙ sym long;
         paved = x.walks
-            ∙ rw (p.paved, p.place, over_pasted (trail_in K keys ms a) trail (piece_in K keys marks a)) (ap (λ (t : List ℕ). over t trail) (sym (trail_on e)));
+            ∙ rw (p.paved, p.place, over_pasted (trail_in K keys ms a) trail (piece_in K keys marks a))
+            (ap (λ (t : List ℕ). over t trail) (sym (trail_on e)));
       }

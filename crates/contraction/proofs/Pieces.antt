@@ -1,5 +1,5 @@
--- An anchor's piece of the trail: how long it is, and that, read back, it tells of an anchor and gives the anchor's label.
--- Assumes nothing.
+-- An anchor's piece of the trail: how long it is, and that, read back, it tells of an anchor and gives the anchor's
+-- label. Assumes nothing.
 use mathlib.Core.Path.{◌≡◌, refl, sym, ap, ◌∙◌}
 use mathlib.Core.Bool.{Bool, true, false, cond}
 use mathlib.Core.Logic.{⊎_elim}
@@ -27,12 +27,14 @@ pub record Begins (text s : List ℕ) : Type 0 where
   pub whole : s ≡ text ++ behind
 
 -- The first byte tells whether there is a piece.
-pub skips_byte : (t : Bool) (back front : Walk) (s : List ℕ) → Begins (cond t (2 ∷ []) (piece_of back front)) s → eqb (get_or s 0 0) 2 ≡ t
+pub skips_byte : (t : Bool) (back front : Walk) (s : List ℕ) → Begins (cond t (2 ∷ []) (piece_of back front)) s
+    → eqb (get_or s 0 0) 2 ≡ t
 skips_byte true back front s g = rw g.whole
 skips_byte false back front s g = ap (λ (l : List ℕ). eqb (get_or l 0 0) 2) g.whole ∙ go back.bases (closed back.last)
   where
     go : (bs : List ℕ) (c : Bool)
-        → eqb (get_or (map letter_of bs ++ cond c (1 ∷ []) (0 ∷ (map letter_of front.bases ++ (0 ∷ []))) ++ g.behind) 0 0) 2 ≡ false
+        → eqb (get_or (map letter_of bs ++ cond c (1 ∷ []) (0 ∷ (map letter_of front.bases ++ (0 ∷ []))) ++ g.behind) 0
+        0) 2 ≡ false
     go [] true = refl
     go [] false = refl
     go (b ∷ bs) c = ne_eqb (letter_of b) 2 (λ e. omega (arith, letter_above b))
@@ -40,9 +42,14 @@ skips_byte false back front s g = ap (λ (l : List ℕ). eqb (get_or l 0 0) 2) g
 -- A byte for each base, and one behind each walk.
 module _ (back front : Walk) where
   pub closed_long : closed back.last ≡ true → length (piece_of back front) ≡ length back.bases + 1
-  closed_long c = rw c (omega (arith, length-append (map letter_of back.bases) (1 ∷ []), length-map back.bases letter_of))
+  closed_long c = rw c (omega (
+    arith,
+    length-append (map letter_of back.bases) (1 ∷ []),
+    length-map back.bases letter_of,
+  ))
 
-  pub open_long : closed back.last ≡ false → length (piece_of back front) ≡ length back.bases + 1 + length front.bases + 1
+  pub open_long : closed back.last ≡ false → length
+      (piece_of back front) ≡ length back.bases + 1 + length front.bases + 1
   open_long c =
       rw c
       (omega (
@@ -57,15 +64,19 @@ module _ (back front : Walk) where
 pub given_some : (t : Bool) (back front : Walk) → 1 ≤ length (cond t (2 ∷ []) (piece_of back front))
 given_some true back front = omega arith
 given_some false back front =
-    ⊎_elim (λ c. omega (arith, closed_long back front c)) (λ c. omega (arith, open_long back front c)) (true_or_false (closed back.last))
+    ⊎_elim (λ c. omega (arith, closed_long back front c)) (λ c. omega (arith, open_long back front c))
+    (true_or_false (closed back.last))
 
 -- The other strand of a k-mer's reverse complement with a text behind it.
-turned : (K x : ℕ) → x < 4 ^ K → (front : List ℕ) → reverse_complement (letters K (rc K x) ++ front) ≡ reverse_complement front ++ letters K x
+turned : (K x : ℕ) → x < 4 ^ K → (front : List ℕ) → reverse_complement
+    (letters K (rc K x) ++ front) ≡ reverse_complement front ++ letters K x
 turned K x small front =
     turn_append (letters K (rc K x)) front
-    ∙ ap (λ (l : List ℕ). reverse_complement front ++ l) (sym (letters_rc K (rc K x)) ∙ ap (letters K) (rc_rc K x small))
+    ∙ ap (λ (l : List ℕ). reverse_complement front ++ l)
+    (sym (letters_rc K (rc K x)) ∙ ap (letters K) (rc_rc K x small))
 
-module _ (K x : ℕ) (small : x < 4 ^ K) (ks : List ℕ) (es : List Ends) (back front : Walk) {s : List ℕ} (g : Begins (piece_of back front) s) where
+module _ (K x : ℕ) (small : x < 4 ^ K) (ks : List ℕ) (es : List Ends) (back front : Walk) {s : List ℕ}
+    (g : Begins (piece_of back front) s) where
   -- What is told of a text that begins with a piece.
   pub record Told : Type 0 where
     pub piece : Piece s
@@ -95,7 +106,8 @@ module _ (K x : ℕ) (small : x < 4 ^ K) (ks : List ℕ) (es : List Ends) (back 
       g.whole ∙ rw (c, append_assoc, append_assoc) in
       let b = byte_behind back.bases rest 0 (omega arith) w in
       let n = count_is back.bases rest 0 (omega arith) w in
-      let d : drop (letter_count s + 1) s ≡ map letter_of front.bases ++ (0 ∷ g.behind) = text_behind back.bases rest 0 (omega arith) w in
+      let d : drop (letter_count s + 1) s ≡ map letter_of front.bases ++ (0 ∷ g.behind) = text_behind back.bases rest 0
+      (omega arith) w in
       let m = count_is front.bases g.behind 0 (omega arith) d in
       record {
         piece = record {

@@ -5,12 +5,14 @@ use Prim.Native.Nat.{ℕ, ◌+◌, ◌≤◌, ◌<◌}
 use native.Mathlib.Numerals.{add-one}
 use native.Mathlib.Omega.{arith}
 use lib.ListN.{length, take, drop, set, length-append}
-use lib.Seq.{paste, length-paste, take-paste, drop-paste, drop-drop, take-length, take_all, take_at, drop_at, length-take-le, set_split, append_snoc}
+use lib.Seq.{paste, length-paste, take-paste, drop-paste, drop-drop, take-length, take_all, take_at, drop_at}
+use lib.Seq.{length-take-le, set_split, append_snoc}
 use lib.Seq.{take-append_seam, drop-append-add}
 use Rattle.dna.specs.Text.{over, part}
 
 -- A second text behind one that stands from the first cell on.
-pub over_pasted : (text slice more : List ℕ) → paste (over text slice) (length text) more (length more) ≡ over (text ++ more) slice
+pub over_pasted : (text slice more : List ℕ) → paste (over text slice) (length text) more (length more) ≡ over
+    (text ++ more) slice
 over_pasted text slice more =
     rw (
       take-append_seam text (drop (length text) slice),
@@ -28,13 +30,16 @@ paste_behind d p s t h =
     let a : take (p + n) (paste d p s n) ≡ take p d ++ take n s = take-paste d p s n (omega arith) (omega arith) in
     let e : p + n + length t ≡ p + (n + length t) = omega arith in
     let b : drop (p + n + length t) (paste d p s n) ≡ drop (p + (n + length t)) d =
-    sym (drop-drop (length t) (p + n) (paste d p s n)) ∙ ap (drop (length t)) (drop-paste d p s n (omega arith) (omega arith))
+    sym (drop-drop (length t) (p + n) (paste d p s n))
+    ∙ ap (drop (length t)) (drop-paste d p s n (omega arith) (omega arith))
     ∙ drop-drop (length t) (p + n) d ∙ ap (λ (z : ℕ). drop z d) e in
     rw (a, b, take-length, take-length, ← length-append s t, take-length, append_assoc (take p d) s t)
 
 -- The part that was pasted, read again and changed.
-pub paste_again : (f : List ℕ → List ℕ) (buffer : List ℕ) (at : ℕ) (s : List ℕ) (n : ℕ) → length s ≡ n → at + n ≤ length buffer
-    → (buffer' : List ℕ) → buffer' ≡ paste buffer at s n → paste buffer' at (f (part buffer' at n)) n ≡ paste buffer at (f s) n
+pub paste_again : (f : List ℕ → List ℕ) (buffer : List ℕ) (at : ℕ) (s : List ℕ) (n : ℕ) → length s ≡ n
+    → at + n ≤ length buffer
+    → (buffer' : List ℕ) → buffer' ≡ paste buffer at s n
+    → paste buffer' at (f (part buffer' at n)) n ≡ paste buffer at (f s) n
 paste_again f d p s n l h buf e =
     let ts : take n s ≡ s = take_all n s (omega arith) in
     let lp : length (take p d) ≡ p = length-take-le p d (omega arith) in
@@ -53,7 +58,8 @@ pub record Placed (buffer : List ℕ) (at : ℕ) (text buffer' : List ℕ) : Typ
   pub room : at + length text ≤ length buffer
   pub cells : buffer' ≡ paste buffer at text (length text)
 
-pub placed_first : (buffer : List ℕ) (at : ℕ) (text : List ℕ) (n : ℕ) {after : List ℕ} → n ≡ length text → at + n ≤ length buffer
+pub placed_first : (buffer : List ℕ) (at : ℕ) (text : List ℕ) (n : ℕ) {after : List ℕ} → n ≡ length text
+    → at + n ≤ length buffer
     → after ≡ paste buffer at text n → Placed buffer at text after
 placed_first buffer at text n e h q = record { room = omega arith; cells = q ∙ ap (paste buffer at text) e }
 
@@ -63,7 +69,8 @@ module _ {buffer text buffer' : List ℕ} {at : ℕ} (p : Placed buffer at text 
 
   -- With more behind it.
   pub placed_more : (more : List ℕ) (n m : ℕ) {after : List ℕ} → n ≡ length text → m ≡ length more
-      → at + (length text + length more) ≤ length buffer → after ≡ paste buffer' (at + n) more m → Placed buffer at (text ++ more) after
+      → at + (length text + length more) ≤ length buffer → after ≡ paste buffer' (at + n) more m
+      → Placed buffer at (text ++ more) after
   placed_more more n m en em h q = record {
     room = omega (arith, length-append text more);
     cells = q ∙ rw (en, em, p.cells, length-append text more) (paste_behind buffer at text more h);
@@ -77,7 +84,8 @@ module _ {buffer text buffer' : List ℕ} {at : ℕ} (p : Placed buffer at text 
       (ap (λ (i : ℕ). set buffer' i v) ei ∙ paste_one buffer' (at + n) v (omega (arith, placed_length)))
 
   -- Read again and changed by a function that keeps the length.
-  pub placed_anew : (f : List ℕ → List ℕ) → ((x : List ℕ) → length (f x) ≡ length x) → (n : ℕ) {after : List ℕ} → n ≡ length text
+  pub placed_anew : (f : List ℕ → List ℕ) → ((x : List ℕ) → length (f x) ≡ length x) → (n : ℕ) {after : List ℕ}
+      → n ≡ length text
       → after ≡ paste buffer' at (f (part buffer' at n)) n → Placed buffer at (f text) after
   placed_anew f same n en q = record {
     room = omega (arith, p.room, same text);

@@ -47,7 +47,8 @@ module _ {s : List ℕ} (bs r : List ℕ) (x : ℕ) (h : x ≤ 2) (e : s ≡ map
   count_ended = record { within = omega (arith, along, ap length e, length-append (map letter_of bs) (x ∷ r)) }
 
   pub byte_behind : get_or s (letter_count s) 0 ≡ x
-  byte_behind = ap (λ (t : List ℕ). get_or t (letter_count s) 0) e ∙ get_or_at (map letter_of bs) x r 0 (letter_count s) along
+  byte_behind = ap (λ (t : List ℕ). get_or t (letter_count s) 0) e
+      ∙ get_or_at (map letter_of bs) x r 0 (letter_count s) along
 
   pub letters_before : take (letter_count s) s ≡ map letter_of bs
   letters_before = ap (take (letter_count s)) e ∙ take_at (map letter_of bs) (x ∷ r) (letter_count s) along

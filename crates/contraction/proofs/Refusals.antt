@@ -1,4 +1,5 @@
--- How contraction ends before a walk is followed: the refusals 1, 5, 15, 7, and what the rest may rely on. Assumes nothing.
+-- How contraction ends before a walk is followed: the refusals 1, 5, 15, 7, and what the rest may rely on. Assumes
+-- nothing.
 use mathlib.Core.Path.{◌≡◌, refl}
 use mathlib.Core.Bool.{true, false}
 use mathlib.Core.List.{List}
@@ -29,12 +30,14 @@ stays : {r : Result Unitigs ContractError} {labels starts lengths marks : List �
 stays = record { answer = refl; labels_after = refl; starts_after = refl; lengths_after = refl; marks_after = refl }
 
 abbrev whole : Kind → ℕ → ℕ → ℕ → List ℕ → List ℕ → List ℕ → List ℕ → List ℕ → List ℕ → Contracted
-whole κ K cutoff n keys counts labels starts lengths marks = contract κ K cutoff n keys counts labels starts lengths marks
+whole κ K cutoff n keys counts labels starts lengths marks = contract κ K cutoff n keys counts labels starts lengths
+    marks
 
 module _ (κ : Kind) (K cutoff n : ℕ) (keys counts labels starts lengths marks : List ℕ) {r : Result (Unit {0}) FitError}
     (t : fit_answer r ≡ fit_call κ K n keys counts) where
   pub unfit : (e : FitError) → r ≡ Err e
-      → Contracts (Err (refused_fit e)) labels starts lengths marks (whole κ K cutoff n keys counts labels starts lengths marks)
+      → Contracts (Err (refused_fit e)) labels starts lengths marks
+      (whole κ K cutoff n keys counts labels starts lengths marks)
   unfolding contract
   unfit (UnsupportedK k) e =
       let q = told_unsupported κ K n keys counts t e in
@@ -51,12 +54,14 @@ module _ (κ : Kind) (K cutoff n : ℕ) (keys counts labels starts lengths marks
     keys_ok = (fit_for_both κ K n keys counts ok.1).0
 
     pub wrong_cutoff : answers_for κ cutoff ≡ false
-        → Contracts (Err WrongCutoff) labels starts lengths marks (whole κ K cutoff n keys counts labels starts lengths marks)
+        → Contracts (Err WrongCutoff) labels starts lengths marks
+        (whole κ K cutoff n keys counts labels starts lengths marks)
     unfolding contract
     wrong_cutoff a = rw (ok.0, ok.1, a) stays
 
     pub few_marks : answers_for κ cutoff ≡ true → length marks < n
-        → Contracts (Err FewMarks) labels starts lengths marks (whole κ K cutoff n keys counts labels starts lengths marks)
+        → Contracts (Err FewMarks) labels starts lengths marks
+        (whole κ K cutoff n keys counts labels starts lengths marks)
     unfolding contract
     few_marks a h = rw (ok.0, ok.1, a, lt-ltb (length marks) n h) stays
 
@@ -64,7 +69,8 @@ module _ (κ : Kind) (K cutoff n : ℕ) (keys counts labels starts lengths marks
       pub lent_first : FitTable K keys counts (take n marks)
       lent_first = fit_first K n keys counts marks ok.0 keys_ok h
 
-      pub goes_on : answers_for κ cutoff ≡ true → {z : Result Unitigs ContractError} {labels' starts' lengths' marks' : List ℕ}
+      pub goes_on : answers_for κ cutoff ≡ true → {z : Result Unitigs ContractError}
+          {labels' starts' lengths' marks' : List ℕ}
           → Contracts z labels' starts' lengths' marks' (finish_in κ K cutoff n keys counts labels starts lengths marks)
           → Contracts z labels' starts' lengths' marks' (whole κ K cutoff n keys counts labels starts lengths marks)
       unfolding contract

@@ -26,8 +26,9 @@ use Rattle.table.specs.Search.{key}
 use Rattle.table.proofs.Keys.{key_is}
 use Rattle.laws.proofs.Sides.{complement_is}
 use Rattle.marks.specs.Marks.{ends}
-use Rattle.contraction.specs.Says.{Both}
+use Rattle.contraction.specs.Says.{Both, Stands}
 use Rattle.contraction.specs.declared.Strands.{Strands}
+use Rattle.contraction.specs.declared.Stand.{Stand}
 use Rattle.marks.proofs.Marking.{ends_length}
 use Rattle.marks.specs.Ready.{keys_for, Ready}
 use Rattle.marks.proofs.Still.{keys_marks}
@@ -38,7 +39,8 @@ held n e f = let g : ◌≡◌ {A = Result Kmer KmerError} (Ok _) (Ok _) = sym f
 
 -- Vertex v as it is stored, and turned.
 module _ {K : ℕ} {keys ms : List ℕ} (r : Ready K keys ms) (v : ℕ) (h : v < length ms)
-    (x : Kmer) (read : value_of x ≡ key keys v) {t : Result Kmer KmerError} (turned : Answers t (reverse_call K (value_of x))) where
+    (x : Kmer) (read : value_of x ≡ key keys v) {t : Result Kmer KmerError}
+    (turned : Answers t (reverse_call K (value_of x))) where
   abbrev stored : ℕ
   stored = get_or (keys_for ms keys) v 0
 
@@ -77,7 +79,8 @@ module _ {K : ℕ} (ok : ok_k K ≡ true) {b : ℕ} (base : b < 4) {s : Strands}
     rest = comp ∙ complement_is b base
 
     pub backward_ok : {t : Result Kmer KmerError} → Answers t (backward_call K o d) → t ≡ Ok (kmer_of (backward K o d))
-    backward_ok turned = roll_given K o ok (rw strands.other (rc_lt K x)) d (backward K o d) (omega (arith, rest)) turned
+    backward_ok turned = roll_given K o ok (rw strands.other (rc_lt K x)) d (backward K o d)
+        (omega (arith, rest)) turned
 
     pub both_rolled : {t u : Result Kmer KmerError} → Answers t (forward_call K x b) → Answers u (backward_call K o d)
         → {y z : Kmer} → t ≡ Ok y → u ≡ Ok z → Both K (forward K x b) (record { here = y; other = z })
@@ -96,10 +99,13 @@ module _ {K x : ℕ} {s : Strands} (strands : Both K x s) where
   pub both_here : Both K (value_of s.here) s
   both_here = rw strands.here strands
 
-  pub both_on : (b : ℕ) {y : ℕ} → forward K x b ≡ y → {t : Strands} → Both K (forward K (value_of s.here) b) t → Both K y t
+  pub both_on : (b : ℕ) {y : ℕ} → forward K x b ≡ y → {t : Strands} → Both K (forward K (value_of s.here) b) t
+      → Both K y t
   both_on b e next = rw (strands.here, e) at next
 
--- Marks with the same ends show a vertex alike.
-pub both_still : {K : ℕ} (keys ms after : List ℕ) (v : ℕ) (s : Side) {t : Strands} → ends after ≡ ends ms → Both K (seen K (keys_for ms keys) v s) t
-    → Both K (seen K (keys_for after keys) v s) t
-both_still keys ms after v s e strands = rw (ends_length ms after e) strands
+-- A walk stands as well over marks with the same ends.
+pub stands_still : {K : ℕ} {keys ms : List ℕ} (after : List ℕ) {s : Stand} → ends after ≡ ends ms → Stands K keys ms s
+    → Stands K keys after s
+stands_still {ms = ms} after e s =
+    let l = ends_length ms after e in
+    record { inside = rw l s.inside; both = rw l s.both }

@@ -1,4 +1,5 @@
--- The run of one vertex more: its labels only grow, and all of them together are short enough for 32 bits. Assumes nothing.
+-- The run of one vertex more: its labels only grow, and all of them together are short enough for 32 bits. Assumes
+-- nothing.
 use mathlib.Core.Path.{◌≡◌, refl, ap, ◌∙◌}
 use mathlib.Core.Bool.{true, false, ◌||◌}
 use mathlib.Core.Logic.{⊎_elim}
@@ -34,11 +35,13 @@ module _ (K : ℕ) (ks : List ℕ) (es : List Ends) where
       let back = walk K ks es a Back marks in
       label_of K ks es (get_or ks a 0) back (walk K ks es a Front back.marks)
 
-  pub run_skips : (a : ℕ) → (visited (run K ks es a).marks a || isolated es a) ≡ true → run K ks es (a + 1) ≡ run K ks es a
+  pub run_skips : (a : ℕ) → (visited (run K ks es a).marks a || isolated es a) ≡ true
+      → run K ks es (a + 1) ≡ run K ks es a
   unfolding run
   run_skips a h = rw (add-one, h)
 
-  pub run_takes : (a : ℕ) → (visited (run K ks es a).marks a || isolated es a) ≡ false → run K ks es (a + 1) ≡ extract K ks es (run K ks es a) a
+  pub run_takes : (a : ℕ) → (visited (run K ks es a).marks a || isolated es a) ≡ false
+      → run K ks es (a + 1) ≡ extract K ks es (run K ks es a) a
   unfolding run
   run_takes a h = rw (add-one, h)
 
@@ -55,7 +58,8 @@ module _ (K : ℕ) (ks : List ℕ) (es : List Ends) where
       let l : List ℕ = label_under r.marks a in
       let e : length (extract K ks es r a).labels ≡ length r.labels + 1 =
       ap length (extract_labels r a) ∙ length-append r.labels (l ∷ []) in
-      let t : length (end_to_end (extract K ks es r a).labels) ≡ length (end_to_end r.labels) + length (label_under r.marks a) =
+      let t : length (end_to_end (extract K ks es r a).labels) ≡ length (end_to_end r.labels) + length
+      (label_under r.marks a) =
       ap (λ (ls : List (List ℕ)). length (end_to_end ls)) (extract_labels r a) ∙ total_snoc r.labels l in
       record { number = omega arith; total = omega arith; missed = extract_missed r a }
 
@@ -65,7 +69,8 @@ module _ (K : ℕ) (ks : List ℕ) (es : List Ends) where
   next_grown : (n : ℕ) → NoMore (run K ks es n) (run K ks es (suc n))
   unfolding run
   next_grown n =
-      choose (NoMore (run K ks es n)) (visited (run K ks es n).marks n || isolated es n) (λ _. same_grown (run K ks es n))
+      choose (NoMore (run K ks es n)) (visited (run K ks es n).marks n || isolated es n)
+      (λ _. same_grown (run K ks es n))
       (λ _. extract_grown (run K ks es n) n)
 
   pub run_grown : (a n : ℕ) → a ≤ n → NoMore (run K ks es a) (run K ks es n)
@@ -76,10 +81,15 @@ module _ (K : ℕ) (ks : List ℕ) (es : List Ends) where
       here l = let e : a ≡ suc n = omega arith in rw e (same_grown (run K ks es (suc n)))
 
       on : NoMore (run K ks es a) (run K ks es n) → NoMore (run K ks es a) (run K ks es (suc n))
-      on g = let x = next_grown n in record { number = omega arith; total = omega arith; missed = λ h. x.missed (g.missed h) }
+      on g = let x = next_grown n in record {
+        number = omega arith;
+        total = omega arith;
+        missed = λ h. x.missed (g.missed h);
+      }
 
 -- The labels of a run have at most 63 * 65,536 bases.
-pub run_small : {K : ℕ} {keys ms : List ℕ} → Ready K keys ms → (a : ℕ) → a ≤ length ms → length (end_to_end (run_in K keys ms a).labels) ≤ 4128768
+pub run_small : {K : ℕ} {keys ms : List ℕ} → Ready K keys ms → (a : ℕ) → a ≤ length ms
+    → length (end_to_end (run_in K keys ms a).labels) ≤ 4128768
 run_small {K} {keys} {ms} r a h =
     let n : length (keys_for ms keys) ≡ length ms = keys_marks r in
     let k = ok_bounds K r.ok in

@@ -1,5 +1,5 @@
--- The definition of what contraction answers tells its cases apart, so its contract allows one result and one content of each
--- slice. Assumes nothing.
+-- The definition of what contraction answers tells its cases apart, so its contract allows one result and one content
+-- of each slice. Assumes nothing.
 use mathlib.Core.Path.{◌≡◌, refl, sym, ap, ◌∙◌}
 use mathlib.Core.List.{List, [], ◌∷◌}
 use Prim.Native.Nat.{ℕ}
@@ -19,7 +19,8 @@ case_of (refuses r values) =
     let u = error.Unfit in
     Err
     (get_or
-    (u ∷ error.UnsupportedK (get_or values 0 0) ∷ u ∷ u ∷ u ∷ u ∷ u ∷ error.FewMarks ∷ error.MissingVertex ∷ error.NoRoom
+    (u ∷ error.UnsupportedK (get_or values 0 0) ∷ u ∷ u ∷ u ∷ u ∷ u ∷ error.FewMarks ∷ error.MissingVertex
+    ∷ error.NoRoom
     ∷ u ∷ u ∷ u ∷ u ∷ u ∷ error.WrongCutoff ∷ [])
     r u)
 
@@ -36,7 +37,8 @@ pub contract_inj : (a b : Result Unitigs ContractError) → contract_answer a �
 contract_inj a b e = sym (case_back a) ∙ ap case_of e ∙ case_back b
 
 pub contracts_one :
-    (r s : Result Unitigs ContractError) {labels labels' starts starts' lengths lengths' marks marks' : List ℕ} {c : Contracted}
+    (r s : Result Unitigs ContractError) {labels labels' starts starts' lengths lengths' marks marks' : List ℕ}
+    {c : Contracted}
     → Contracts r labels starts lengths marks c → Contracts s labels' starts' lengths' marks' c
     → (r ≡ s) × (labels ≡ labels') × (starts ≡ starts') × (lengths ≡ lengths') × (marks ≡ marks')
 contracts_one r s t u = (

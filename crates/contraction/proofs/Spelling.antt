@@ -26,7 +26,8 @@ module _ {bs buffer : List ℕ} {at j : ℕ} {now : List ℕ} (g : Spelling bs b
       ap length g.pasted
       ∙ length-paste buffer at (map letter_of bs) j (omega (arith, g.room)) (omega (arith, length-map bs letter_of))
 
-  pub spelling_next : j < length bs → {b x : ℕ} → get_or bs j 0 ≡ b → x ≡ letter_of b → Spelling bs buffer at (j + 1) (set now (at + j) x)
+  pub spelling_next : j < length bs → {b x : ℕ} → get_or bs j 0 ≡ b → x ≡ letter_of b
+      → Spelling bs buffer at (j + 1) (set now (at + j) x)
   spelling_next h {b} {x} eb ex =
       let n : j + 1 ≡ suc j = omega arith in
       let v : x ≡ get_or (map letter_of bs) j 0 = ex ∙ ap letter_of (sym eb) ∙ sym (get_d_map letter_of bs j h) in
@@ -34,12 +35,18 @@ module _ {bs buffer : List ℕ} {at j : ℕ} {now : List ℕ} (g : Spelling bs b
         room = g.room;
         pasted =
             rw (n, g.pasted, v)
-            (paste-suc buffer at (map letter_of bs) j 0 (omega (arith, g.room)) (omega (arith, length-map bs letter_of)));
+            (paste-suc buffer at (map letter_of bs) j 0 (omega (arith, g.room))
+            (omega (arith, length-map bs letter_of)));
       }
 
 -- At the walk's end all of them do.
-pub spelling_ends : {K : ℕ} {keys ms : List ℕ} {a : ℕ} {start : Side} {r : Walked} {after : List ℕ} → Walks K keys ms a start r after
+pub spelling_ends : {K : ℕ} {keys ms : List ℕ} {a : ℕ} {start : Side} {r : Walked} {after : List ℕ}
+    → Walks K keys ms a start r after
     → {buffer now : List ℕ} {at : ℕ} → Spelling (walk_in K keys ms a start).bases buffer at r.bases now
     → Spells K keys ms a start r after buffer at now
 spelling_ends {K} {keys} {ms} {a} {start} w {buffer} {at = at} g =
-    record { walks = w; letters = g.pasted ∙ ap (paste buffer at (map letter_of (walk_in K keys ms a start).bases)) w.bases }
+    record {
+      walks = w;
+      letters = g.pasted ∙ ap (paste buffer at (map letter_of (walk_in K keys ms a start).bases))
+          w.bases;
+    }

@@ -1,4 +1,5 @@
--- What stands in the trail at the place of a vertex: that it is no anchor, or its piece, which gives its label. Assumes nothing.
+-- What stands in the trail at the place of a vertex: that it is no anchor, or its piece, which gives its label. Assumes
+-- nothing.
 use mathlib.Core.Path.{◌≡◌, sym, ap, ◌∙◌}
 use mathlib.Core.Bool.{Bool, true, false, ◌||◌}
 use mathlib.Core.List.{List, [], ◌∷◌, ◌++◌}
@@ -54,7 +55,8 @@ module _ {K : ℕ} {keys ms trail : List ℕ} {from a : ℕ} (p : Standing K key
   byte : eqb (get_or trail from 0) 2 ≡ skipped
   byte =
       let z : from + 0 ≡ from = add-zero from in
-      sym (ap (λ (b : ℕ). eqb b 2) (get_or-drop from trail 0 0 ∙ ap (λ (i : ℕ). get_or trail i 0) z)) ∙ skips_byte skipped B F (drop from trail) here
+      sym (ap (λ (b : ℕ). eqb b 2) (get_or-drop from trail 0 0 ∙ ap (λ (i : ℕ). get_or trail i 0) z))
+      ∙ skips_byte skipped B F (drop from trail) here
 
   module _ (e : get_or trail from 0 ≡ 2) where
     pub skips_here : skipped ≡ true
@@ -62,7 +64,8 @@ module _ {K : ℕ} {keys ms trail : List ℕ} {from a : ℕ} (p : Standing K key
 
     pub place_skipped : from + 1 ≡ length (trail_in K keys ms (a + 1))
     place_skipped =
-        let q : trail_in K keys ms (a + 1) ≡ trail_in K keys ms a ++ (2 ∷ []) = trail_next K keys ms a ∙ rw skips_here in
+        let q : trail_in K keys ms (a + 1) ≡ trail_in K keys ms a ++ (2 ∷ []) = trail_next K keys ms a
+        ∙ rw skips_here in
         omega (arith, p.place, ap length q, length-append (trail_in K keys ms a) (2 ∷ []))
 
   module _ (n : get_or trail from 0 ≡ 2 → ⊥) where
@@ -78,7 +81,8 @@ module _ {K : ℕ} {keys ms trail : List ℕ} {from a : ℕ} (p : Standing K key
     pub piece_here : Piece (drop from trail)
     piece_here = reads.piece
 
-    pub label_here : label_from K (key keys a) (drop from trail) ≡ label_under K (keys_for ms keys) (ends ms) (run_in K keys ms a).marks a
+    pub label_here : label_from K (key keys a) (drop from trail) ≡ label_under K (keys_for ms keys) (ends ms)
+        (run_in K keys ms a).marks a
     label_here = rw (anchor_is p.ready a p.vertex) reads.label
 
     pub place_taken : from + piece_length (drop from trail) ≡ length (trail_in K keys ms (a + 1))

@@ -59,7 +59,8 @@ module _ {K : ℕ} {keys ms : List ℕ} where
         → Surveying K keys ms (a + 1) labels bases now
     surveying_skip h e =
         let s = g.surveys in
-        let q : run_in K keys ms (a + 1) ≡ run_in K keys ms a = run_skips K (keys_for ms keys) (ends ms) a (skipped_is e) in
+        let q : run_in K keys ms (a + 1) ≡ run_in K keys ms a = run_skips K (keys_for ms keys) (ends ms) a
+        (skipped_is e) in
         record {
           ready = g.ready;
           within = omega arith;
@@ -97,7 +98,8 @@ module _ {K : ℕ} {keys ms : List ℕ} where
       unfolding extract
       missed_now = ap (λ (z : Run). z.missed) next ∙ (rw g.surveys.missed (sym (ap (λ (z : Run). z.missed) alone)))
 
-      pub surveying_take : {l : Label} {after trail trail' : List ℕ} {at : ℕ} → Extracts K keys now a l after trail at trail'
+      pub surveying_take : {l : Label} {after trail trail' : List ℕ} {at : ℕ}
+          → Extracts K keys now a l after trail at trail'
           → Surveying K keys ms (a + 1) (labels + 1) (bases + l.bases) after
       unfolding extract
       surveying_take {l} x =

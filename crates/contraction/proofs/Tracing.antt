@@ -1,4 +1,5 @@
--- An anchor's piece written into the trail: the Back walk's letters, a byte behind them, and the Front walk's alike. Assumes nothing.
+-- An anchor's piece written into the trail: the Back walk's letters, a byte behind them, and the Front walk's alike.
+-- Assumes nothing.
 use mathlib.Core.Path.{◌≡◌, refl, sym, ap, ◌∙◌}
 use mathlib.Core.Bool.{Bool, true, false}
 use mathlib.Core.List.{List, [], ◌∷◌, ◌++◌, map, append_assoc}
@@ -35,7 +36,8 @@ module _ {K : ℕ} {keys ms : List ℕ} {a : ℕ} {trail : List ℕ} {at : ℕ} 
   piece_closed : closed B.last ≡ true → map letter_of B.bases ++ (1 ∷ []) ≡ piece_in K keys ms a
   piece_closed c = rw c
 
-  piece_open : closed B.last ≡ false → map letter_of B.bases ++ (0 ∷ []) ++ map letter_of F.bases ++ (0 ∷ []) ≡ piece_in K keys ms a
+  piece_open : closed B.last ≡ false → map letter_of B.bases ++ (0 ∷ []) ++ map letter_of F.bases ++
+      (0 ∷ []) ≡ piece_in K keys ms a
   piece_open c = rw (c, append_assoc, append_assoc)
 
   pub back_room : at + length B.bases < length trail
@@ -48,7 +50,8 @@ module _ {K : ℕ} {keys ms : List ℕ} {a : ℕ} {trail : List ℕ} {at : ℕ} 
   module _ {b : Walked} {ms₁ trail₁ : List ℕ} (back : Spells K keys ms a Back b ms₁ trail at trail₁) where
     back_placed : Placed trail at (map letter_of B.bases) trail₁
     back_placed =
-        placed_first trail at (map letter_of B.bases) (length B.bases) (sym (length-map B.bases letter_of)) (omega (arith, back_room))
+        placed_first trail at (map letter_of B.bases) (length B.bases) (sym (length-map B.bases letter_of))
+        (omega (arith, back_room))
         back.letters
 
     bases_is : b.bases ≡ length (map letter_of B.bases)
@@ -92,7 +95,8 @@ module _ {K : ℕ} {keys ms : List ℕ} {a : ℕ} {trail : List ℕ} {at : ℕ} 
             (sym (length-map F.bases letter_of))
             (omega (arith, y.room, open_long B F going, back.walks.bases, stop_long, length-map F.bases letter_of))
             (rw e at front.letters
-            ∙ ap (λ (w : Walk). paste (set trail₁ (at + b.bases) 0) (at + (b.bases + 1)) (map letter_of w.bases) (length w.bases)) same_front)
+            ∙ ap (λ (w : Walk). paste (set trail₁ (at + b.bases) 0) (at + (b.bases + 1)) (map letter_of w.bases)
+            (length w.bases)) same_front)
 
         pub end_fits : at + b.bases + 1 + f.bases < length trail
         end_fits = omega (arith, y.room, open_long B F going, back.walks.bases, front_long)

@@ -1,4 +1,5 @@
--- The trail of all vertices: what each gives to it, where that stands, and that two bytes for each are enough. Assumes nothing.
+-- The trail of all vertices: what each gives to it, where that stands, and that two bytes for each are enough. Assumes
+-- nothing.
 use mathlib.Core.Path.{◌≡◌, refl, sym, ap, ap₂, ◌∙◌}
 use mathlib.Core.Bool.{Bool, true, false, cond, ◌||◌}
 use mathlib.Core.Logic.{⊎_elim}
@@ -44,16 +45,20 @@ module _ (K : ℕ) (keys ms : List ℕ) where
   trail_grown a (suc n) h = ⊎_elim (λ l. on (trail_grown a n (omega arith))) here (lt_or_ge a (suc n))
     where
       here : suc n ≤ a → Begins (trail_in K keys ms a) (trail_in K keys ms (suc n))
-      here l = let e : a ≡ suc n = omega arith in rw e (record { behind = []; whole = sym (append-nil (trail_in K keys ms (suc n))) })
+      here l = let e : a ≡ suc n = omega arith in rw e
+          (record { behind = []; whole = sym (append-nil (trail_in K keys ms (suc n))) })
 
-      on : Begins (trail_in K keys ms a) (trail_in K keys ms n) → Begins (trail_in K keys ms a) (trail_in K keys ms (suc n))
+      on : Begins (trail_in K keys ms a) (trail_in K keys ms n)
+          → Begins (trail_in K keys ms a) (trail_in K keys ms (suc n))
       on g = record {
         behind = g.behind ++ given_by n;
-        whole = ap (λ (t : List ℕ). t ++ given_by n) g.whole ∙ append_assoc (trail_in K keys ms a) g.behind (given_by n);
+        whole = ap (λ (t : List ℕ). t ++ given_by n) g.whole
+            ∙ append_assoc (trail_in K keys ms a) g.behind (given_by n);
       }
 
   -- At the place of vertex a stands what it gives.
-  pub trail_here : {trail : List ℕ} → Trails K keys ms trail → {from : ℕ} (a : ℕ) → from ≡ length (trail_in K keys ms a) → a < length ms
+  pub trail_here : {trail : List ℕ} → Trails K keys ms trail → {from : ℕ} (a : ℕ)
+      → from ≡ length (trail_in K keys ms a) → a < length ms
       → Begins (given_by a) (drop from trail)
   trail_here {trail} t {from} a e h =
       let g = trail_grown (a + 1) (length ms) (omega arith) in
@@ -76,7 +81,8 @@ module _ (K : ℕ) (keys ms after : List ℕ) (e : ends after ≡ ends ms) where
 
 -- The trail has at most two bytes for each vertex.
 module _ {K : ℕ} {keys ms : List ℕ} (rd : Ready K keys ms) where
-  trail_room : (a : ℕ) → a ≤ length ms → length (trail_in K keys ms a) + unseen (run_in K keys ms a).marks ≤ length ms + a
+  trail_room : (a : ℕ) → a ≤ length ms → length (trail_in K keys ms a) + unseen
+      (run_in K keys ms a).marks ≤ length ms + a
   unfolding trail_in run
   trail_room zero h =
       let m : List ℕ = replicate (length (keys_for ms keys)) 0 in
@@ -87,7 +93,8 @@ module _ {K : ℕ} {keys ms : List ℕ} (rd : Ready K keys ms) where
       go : (t : Bool) → (visited (run_in K keys ms a).marks a || isolated (ends ms) a) ≡ t
           → length (trail_in K keys ms a) + unseen (run_in K keys ms a).marks ≤ length ms + a
           → length (trail_in K keys ms a ++ cond t (2 ∷ []) (piece_from K keys ms (run_in K keys ms a).marks a))
-          + unseen (cond t (run_in K keys ms a) (extract K (keys_for ms keys) (ends ms) (run_in K keys ms a) a)).marks ≤ length ms + suc a
+          + unseen (cond t (run_in K keys ms a) (extract K (keys_for ms keys) (ends ms) (run_in K keys ms a) a)).marks
+          ≤ length ms + suc a
       go true e ih = omega (arith, length-append (trail_in K keys ms a) (2 ∷ []))
       go false e ih =
           let r : Run = run_in K keys ms a in
@@ -96,20 +103,23 @@ module _ {K : ℕ} {keys ms : List ℕ} (rd : Ready K keys ms) where
           omega (
             arith,
             length-append (trail_in K keys ms a) p,
-            piece_room K (keys_for ms keys) (ends ms) r a l (omega (arith, keys_marks rd)) (or_first (visited r.marks a) (isolated (ends ms) a) e),
+            piece_room K (keys_for ms keys) (ends ms) r a l (omega (arith, keys_marks rd))
+                (or_first (visited r.marks a) (isolated (ends ms) a) e),
           )
 
   pub trail_short : (a : ℕ) → a ≤ length ms → length (trail_in K keys ms a) ≤ 2 * length ms
   trail_short a h = omega (arith, trail_room a h)
 
   -- Written over a slice that is wide enough, the trail is there for all marks with the same ends.
-  pub trails_over : {after : List ℕ} → ends after ≡ ends ms → (slice : List ℕ) → 2 * length ms ≤ length slice → {trail : List ℕ}
+  pub trails_over : {after : List ℕ} → ends after ≡ ends ms → (slice : List ℕ) → 2 * length ms ≤ length slice
+      → {trail : List ℕ}
       → trail ≡ over (trail_in K keys ms (length ms)) slice → Trails K keys after trail
   trails_over {after} e slice h {trail} q =
       let T : List ℕ = trail_in K keys ms (length ms) in
       let same : trail_in K keys after (length after) ≡ trail_in K keys ms (length ms) =
       trail_same K keys ms after e (length after) ∙ ap (trail_in K keys ms) (ends_length ms after e) in
-      let l : length (trail_in K keys ms (length ms)) ≤ length slice = omega (arith, trail_short (length ms) (omega arith)) in
+      let l : length (trail_in K keys ms (length ms)) ≤ length
+      slice = omega (arith, trail_short (length ms) (omega arith)) in
       record {
         holds = rw (same, q) (take-append_seam T (drop (length T) slice));
         long = omega (arith, ap length same, ap length q, length_over T slice l);

@@ -43,7 +43,8 @@ module _ (K : ℕ) (ks : List ℕ) (es : List Ends) where
   -- Each base of a walk is a vertex that it visits, beside the one that it starts from.
   pub record Paced (a : ℕ) (start : Side) (marks : List ℕ) : Type 0 where
     pub long : length (walk K ks es a start marks).marks ≡ length ks
-    pub sum : length (walk K ks es a start marks).bases + unseen (walk K ks es a start marks).marks ≡ unseen (set marks a 1)
+    pub sum : length (walk K ks es a start marks).bases + unseen (walk K ks es a start marks).marks ≡ unseen
+        (set marks a 1)
 
   pub paced : (a : ℕ) (start : Side) (marks : List ℕ) → length marks ≡ length ks → Paced a start marks
   paced a start marks l =

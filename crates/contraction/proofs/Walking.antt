@@ -25,7 +25,8 @@ use Rattle.contraction.proofs.Onward.{rest, went_on, went_ends}
 use Rattle.contraction.proofs.Visiting.{paced}
 
 -- A walk has no more bases than there are vertices.
-pub walk_few : {K : ℕ} {keys ms : List ℕ} → Ready K keys ms → (a : ℕ) (start : Side) → length (walk_in K keys ms a start).bases ≤ length ms
+pub walk_few : {K : ℕ} {keys ms : List ℕ} → Ready K keys ms → (a : ℕ) (start : Side)
+    → length (walk_in K keys ms a start).bases ≤ length ms
 walk_few {K} {keys} {ms} r a start =
     let p = paced K (keys_for ms keys) (ends ms) a start (visits ms) (visits_length ms ∙ sym (keys_marks r)) in
     omega (arith, p.sum, unseen_le (set (visits ms) a 1), length-set (visits ms) a 1, visits_length ms)
@@ -37,12 +38,14 @@ not_next (Stop why) f = refl
 not_next Missing f = refl
 
 -- The walk stands at vertex v, which it is to mark and to leave by side s.
-pub record Walking (K : ℕ) (keys ms : List ℕ) (a : ℕ) (start : Side) (bases v : ℕ) (s : Side) (now : List ℕ) : Type 0 where
+pub record Walking (K : ℕ) (keys ms : List ℕ) (a : ℕ) (start : Side) (bases v : ℕ) (s : Side)
+    (now : List ℕ) : Type 0 where
   pub ready : Ready K keys ms
   pub kept : ends now ≡ ends ms
   pub below : v < length ms
   pub within : bases ≤ length (walk_in K keys ms a start).bases
-  pub left : Went K (keys_for ms keys) (ends ms) a start (set (visits now) v 1) v s (rest bases (walk_in K keys ms a start))
+  pub left : Went K (keys_for ms keys) (ends ms) a start (set (visits now) v 1) v s
+      (rest bases (walk_in K keys ms a start))
 
 pub walking_start : {K : ℕ} {keys ms : List ℕ} → Ready K keys ms → (a : ℕ) (start : Side) → a < length ms
     → Walking K keys ms a start 0 a start ms
@@ -55,7 +58,8 @@ walking_start {K} {keys} {ms} r a start h = record {
 }
 
 module _ {K : ℕ} {keys ms : List ℕ} {a : ℕ} {start : Side} {bases v : ℕ} {s : Side} {now : List ℕ}
-    (g : Walking K keys ms a start bases v s now) {r : Step} {after : List ℕ} (advance : Advances K keys now a start v s r after) where
+    (g : Walking K keys ms a start bases v s now) {r : Step} {after : List ℕ}
+    (advance : Advances K keys now a start v s r after) where
   stepped : step K (keys_for ms keys) (ends ms) a start (set (visits now) v 1) v s ≡ r
   stepped =
       let k = advance.ends_kept ∙ g.kept in
@@ -66,7 +70,8 @@ module _ {K : ℕ} {keys ms : List ℕ} {a : ℕ} {start : Side} {bases v : ℕ}
 
   module _ {u b : ℕ} {t : Side} (e : r ≡ Next u t b) where
     on : (drop bases (walk_in K keys ms a start).bases ≡ b ∷ drop 1 (drop bases (walk_in K keys ms a start).bases))
-        × Went K (keys_for ms keys) (ends ms) a start (set (set (visits now) v 1) u 1) u t (rest 1 (rest bases (walk_in K keys ms a start)))
+        × Went K (keys_for ms keys) (ends ms) a start (set (set (visits now) v 1) u 1) u t
+        (rest 1 (rest bases (walk_in K keys ms a start)))
     on = went_on g.left (stepped ∙ e)
 
     met : Came K (keys_for ms keys) (ends ms) (set (visits now) v 1) v s u t b
@@ -95,7 +100,8 @@ module _ {K : ℕ} {keys ms : List ℕ} {a : ℕ} {start : Side} {bases v : ℕ}
     pub walking_seen : forward K (seen K (keys_for ms keys) v s) b ≡ seen K (keys_for ms keys) u t
     walking_seen = came_forward K (keys_for ms keys) (ends ms) met
 
-  pub walking_ends : {st : Step} → r ≡ st → is_next st ≡ false → Walks K keys ms a start (record { bases = bases; last = st }) after
+  pub walking_ends : {st : Step} → r ≡ st → is_next st ≡ false
+      → Walks K keys ms a start (record { bases = bases; last = st }) after
   walking_ends e n =
       let o = went_ends g.left (stepped ∙ e) n in
       record {

@@ -1,5 +1,5 @@
--- One label written in its place from an anchor's piece: the k-mer and the Back walk, or before them the Front walk on the other
--- strand. Assumes nothing.
+-- One label written in its place from an anchor's piece: the k-mer and the Back walk, or before them the Front walk on
+-- the other strand. Assumes nothing.
 use mathlib.Core.Path.{◌≡◌, sym, ap, ◌∙◌}
 use mathlib.Core.Bool.{true, false}
 use mathlib.Core.List.{List, ◌++◌}
@@ -27,7 +27,8 @@ pub record Legible (K x : ℕ) (trail : List ℕ) (from : ℕ) (buffer : List �
   pub room : at + length (label_from K x (drop from trail)) ≤ length buffer
   pub back : n ≡ letter_count (drop from trail)
 
-module _ {K x : ℕ} {trail : List ℕ} {from : ℕ} {buffer : List ℕ} {at n : ℕ} (y : Legible K x trail from buffer at n) where
+module _ {K x : ℕ} {trail : List ℕ} {from : ℕ} {buffer : List ℕ} {at n : ℕ}
+    (y : Legible K x trail from buffer at n) where
   pub back_inside : from + n < length trail
   back_inside = omega (arith, y.back, y.piece.back_ends.within, length-drop from trail)
 
@@ -50,7 +51,13 @@ module _ {K x : ℕ} {trail : List ℕ} {from : ℕ} {buffer : List ℕ} {at n :
     long_closed = omega (arith, length-append (letters K x) (part trail from n), length_letters K x, back_long)
 
     pub fits_closed : at + (K + n) ≤ length buffer
-    fits_closed = omega (arith, y.room, ap length label_closed, lesser_length (letters K x ++ part trail from n), long_closed)
+    fits_closed = omega (
+      arith,
+      y.room,
+      ap length label_closed,
+      lesser_length (letters K x ++ part trail from n),
+      long_closed,
+    )
 
     module _ {b₁ : List ℕ} (q₁ : b₁ ≡ paste buffer at (letters K x) K) where
       first : Placed buffer at (letters K x) b₁
@@ -85,7 +92,8 @@ module _ {K x : ℕ} {trail : List ℕ} {from : ℕ} {buffer : List ℕ} {at n :
     behind : drop (letter_count (drop from trail) + 1) (drop from trail) ≡ drop (from + n + 1) trail
     behind =
         let e : from + (n + 1) ≡ from + n + 1 = omega arith in
-        ap (λ (i : ℕ). drop (i + 1) (drop from trail)) (sym y.back) ∙ drop-drop (n + 1) from trail ∙ ap (λ (i : ℕ). drop i trail) e
+        ap (λ (i : ℕ). drop (i + 1) (drop from trail)) (sym y.back) ∙ drop-drop (n + 1) from trail
+        ∙ ap (λ (i : ℕ). drop i trail) e
 
     pub front_ends : Ended (drop (from + n + 1) trail)
     front_ends = rw behind at (y.piece.front_ends tells_open)
@@ -98,7 +106,8 @@ module _ {K x : ℕ} {trail : List ℕ} {from : ℕ} {buffer : List ℕ} {at n :
       front_inside = omega (arith, em, front_ends.within, length-drop (from + n + 1) trail)
 
       front_long : length turned ≡ m
-      front_long = length_reverse_complement (part trail (from + n + 1) m) ∙ part_length trail (from + n + 1) m front_inside
+      front_long = length_reverse_complement (part trail (from + n + 1) m)
+          ∙ part_length trail (from + n + 1) m front_inside
 
       label_open : label_from K x (drop from trail) ≡ lesser (turned ++ letters K x ++ part trail from n)
       unfolding label_from
@@ -111,7 +120,13 @@ module _ {K x : ℕ} {trail : List ℕ} {from : ℕ} {buffer : List ℕ} {at n :
       long_open = omega (arith, length-append (turned ++ letters K x) (part trail from n), mid_long, back_long)
 
       pub fits_open : at + (m + K + n) ≤ length buffer
-      fits_open = omega (arith, y.room, ap length label_open, lesser_length (turned ++ letters K x ++ part trail from n), long_open)
+      fits_open = omega (
+        arith,
+        y.room,
+        ap length label_open,
+        lesser_length (turned ++ letters K x ++ part trail from n),
+        long_open,
+      )
 
       module _ {b₁ : List ℕ} (q₁ : b₁ ≡ paste buffer at turned m) where
         front_placed : Placed buffer at turned b₁
@@ -143,7 +158,8 @@ module _ {K x : ℕ} {trail : List ℕ} {from : ℕ} {buffer : List ℕ} {at n :
                 → WritesLabel K x trail from (record { bases = m + K + n; end = from + n + m + 2 }) buffer at b₄
             unfolding piece_length
             written_open q₄ = record {
-              bases = sym (ap length label_open ∙ lesser_length (turned ++ letters K x ++ part trail from n) ∙ long_open);
+              bases = sym (ap length label_open ∙ lesser_length (turned ++ letters K x ++ part trail from n)
+                  ∙ long_open);
               end = rw (tells_open, behind) (omega (arith, em, y.back));
               letters = rw label_open (placed_anew text_open lesser lesser_length (m + K + n) (sym long_open) q₄).cells;
             }

@@ -1,4 +1,5 @@
--- What is left in the trail of three tables at K = 3 and cutoff 1, and the label read back from it, computed. Assumes nothing.
+-- What is left in the trail of three tables at K = 3 and cutoff 1, and the label read back from it, computed. Assumes
+-- nothing.
 use Rattle.std.specs.Prelude.{ℕ, ◌≡◌, refl, List, [], ◌∷◌, ◌++◌, map, length, get_or}
 use Prim.Native.String.{String}
 use Rattle.dna.specs.Text.{bytes, open_text}
@@ -20,14 +21,17 @@ pub record Example : Type 0 where
   pub label : String
 
 abbrev trail_of : Example → List ℕ
-trail_of e = trail_in 3 (words_of (map (λ (x : String). packed (bytes x)) e.kmers)) (map (mark_of four_bits 1) e.counts) (length e.counts)
+trail_of e =
+    let keys = words_of (map (λ (x : String). packed (bytes x)) e.kmers) in
+    trail_in 3 keys (map (mark_of four_bits 1) e.counts) (length e.counts)
 
 abbrev label_of : Example → List ℕ
 label_of e = label_from 3 (packed (bytes (get_or e.kmers 0 ""))) e.trail
 
 abbrev examples : List Example
 examples =
-    -- The table of CAACC: the Back walk of AAC appends C, its Front walk appends G to GTT; the other two k-mers are then visited.
+    -- The table of CAACC: the Back walk of AAC appends C, its Front walk appends G to GTT; the other two k-mers are
+    -- then visited.
     record {
       kmers = "AAC" ∷ "ACC" ∷ "CAA" ∷ [];
       counts = 0x00100010 ∷ 0x00000001 ∷ 0x00100000 ∷ [];
@@ -51,7 +55,8 @@ examples =
     ∷ []
 
 pub trail_computed : map trail_of examples ≡ map (λ (e : Example). e.trail) examples
-unfolding open_text open_letters open_order open_kmer open_counted open_table open_walks open_labels ends visits trail_in
+unfolding open_text open_letters open_order open_kmer open_counted open_table open_walks open_labels
+    ends visits trail_in
 trail_computed = refl
 
 pub label_computed : map label_of examples ≡ map (λ (e : Example). bytes e.label) examples

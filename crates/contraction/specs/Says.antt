@@ -1,5 +1,6 @@
 -- What contraction answers in document 01's numbers, and what its parts say. Assumes nothing.
-use Rattle.std.specs.Prelude.{ℕ, ◌+◌, ◌^◌, ◌≤◌, ◌<◌, ◌≡◌, true, false, Result, Ok, Err, List, [], ◌∷◌, map, length, set, drop}
+use Rattle.std.specs.Prelude.{ℕ, ◌+◌, ◌^◌, ◌≤◌, ◌<◌, ◌≡◌, true, false, Result, Ok, Err, List, [], ◌∷◌, map, length, set}
+use Rattle.std.specs.Prelude.{drop}
 use Rattle.std.proofs.Math.Seq.{paste}
 use Rattle.dna.specs.Text.{over}
 use Rattle.dna.specs.Answer.{Answer, gives, refuses}
@@ -13,12 +14,15 @@ use Rattle.graph.specs.declared.Step.{Step}
 use Rattle.table.specs.declared.FitError.{FitError}
 use Rattle.table.specs.declared.FitError.TheVariants as fit
 use Rattle.graph.specs.Table.{table_of}
+use Rattle.graph.specs.Walks.{seen}
 use Rattle.graph.specs.Labels.{Run, run}
 use Rattle.graph.specs.Contraction.{Entry, entries, end_to_end, ends_in, Totals, Contracted, finish}
 use Rattle.marks.specs.Marks.{ends, visits}
+use Rattle.marks.specs.Ready.{keys_for}
 use Rattle.contraction.specs.Over.{step_in, walk_in, extract_in, label_in, run_in}
 use Rattle.contraction.specs.Trail.{piece_in, trail_in, label_from, piece_length}
 use Rattle.contraction.specs.declared.Strands.{Strands}
+use Rattle.contraction.specs.declared.Stand.{Stand}
 use Rattle.contraction.specs.declared.Walked.{Walked}
 use Rattle.contraction.specs.declared.Label.{Label}
 use Rattle.contraction.specs.declared.Unitigs.{Unitigs}
@@ -41,7 +45,8 @@ refused_fit (fit.UnsupportedK K) = contract.UnsupportedK K
 refused_fit fit.Unfit = contract.Unfit
 
 -- A contraction: its answer, and the slices at exit.
-pub record Contracts (r : Result Unitigs ContractError) (labels starts lengths marks : List ℕ) (c : Contracted) : Type 0 where
+pub record Contracts (r : Result Unitigs ContractError) (labels starts lengths marks : List ℕ) (c : Contracted)
+    : Type 0 where
   pub answer : contract_answer r ≡ c.answer
   pub labels_after : labels ≡ c.labels
   pub starts_after : starts ≡ c.starts
@@ -53,6 +58,11 @@ pub record Both (K x : ℕ) (s : Strands) : Type 0 where
   pub below : x < 4 ^ K
   pub here : value_of s.here ≡ x
   pub other : value_of s.other ≡ rc K x
+
+-- Where a walk stands: at a vertex, whose k-mer it sees.
+pub record Stands (K : ℕ) (keys ms : List ℕ) (s : Stand) : Type 0 where
+  pub inside : s.vertex < length ms
+  pub both : Both K (seen K (keys_for ms keys) s.vertex s.side) s.strands
 
 -- What the parts leave in the marks, and say; over keys and the marks at entry.
 module _ (K : ℕ) (keys ms : List ℕ) where
@@ -71,12 +81,15 @@ module _ (K : ℕ) (keys ms : List ℕ) where
     pub few : r.bases ≤ length ms
 
   -- A walk whose letters stand in the buffer from a place on; the rest of the buffer is as it was.
-  pub record Spells (a : ℕ) (start : Side) (r : Walked) (after buffer : List ℕ) (at : ℕ) (buffer' : List ℕ) : Type 0 where
+  pub record Spells (a : ℕ) (start : Side) (r : Walked) (after buffer : List ℕ) (at : ℕ) (buffer' : List ℕ)
+      : Type 0 where
     pub walks : Walks a start r after
-    pub letters : buffer' ≡ paste buffer at (map letter_of (walk_in K keys ms a start).bases) (length (walk_in K keys ms a start).bases)
+    pub letters : let bases = (walk_in K keys ms a start).bases in
+        buffer' ≡ paste buffer at (map letter_of bases) (length bases)
 
-  -- Anchor a's label, unwritten: its length; its walks came to no missing vertex, and stand in the trail from a place on. With at
-  -- most 63 bases of the anchor and 65,536 of each walk it stays below 200,000, so that no sum over all anchors overflows.
+  -- Anchor a's label, unwritten: its length; its walks came to no missing vertex, and stand in the trail from a place
+  -- on. With at most 63 bases of the anchor and 65,536 of each walk it stays below 200,000, so that no sum over all
+  -- anchors overflows.
   pub record Extracts (a : ℕ) (r : Label) (after trail : List ℕ) (at : ℕ) (trail' : List ℕ) : Type 0 where
     pub bases : r.bases ≡ length (label_in K keys ms a)
     pub missed : (extract_in K keys ms a).missed ≡ false
@@ -111,8 +124,10 @@ module _ (K : ℕ) (keys ms : List ℕ) where
     pub starts_fit : length (run_in K keys ms (length ms)).labels ≤ starts
     pub lengths_fit : length (run_in K keys ms (length ms)).labels ≤ lengths
 
--- The label of k-mer x and of the piece that stands in the trail from a place on, written from a place of the buffer on.
-pub record WritesLabel (K x : ℕ) (trail : List ℕ) (from : ℕ) (r : Label) (buffer : List ℕ) (at : ℕ) (buffer' : List ℕ) : Type 0 where
+-- The label of k-mer x and of the piece that stands in the trail from a place on, written from a place of the buffer
+-- on.
+pub record WritesLabel (K x : ℕ) (trail : List ℕ) (from : ℕ) (r : Label) (buffer : List ℕ) (at : ℕ) (buffer' : List ℕ)
+    : Type 0 where
   pub bases : r.bases ≡ length (label_from K x (drop from trail))
   pub end : r.end ≡ from + piece_length (drop from trail)
   pub letters : buffer' ≡ paste buffer at (label_from K x (drop from trail)) (length (label_from K x (drop from trail)))
@@ -131,10 +146,12 @@ pub record Lists (r : Run) (es : List Entry) (buffer buffer' starts starts' leng
   pub lengths_after : lengths' ≡ over (lengths_of es) lengths
 
 -- The labels of the first a vertices, written end to end, with their index in anchor order.
-pub record Writes (K : ℕ) (keys ms : List ℕ) (a labels at : ℕ) (buffer buffer' starts starts' lengths lengths' : List ℕ) : Type 0 where
+pub record Writes (K : ℕ) (keys ms : List ℕ) (a labels at : ℕ) (buffer buffer' starts starts' lengths lengths' : List ℕ)
+    : Type 0 where
   pub number : labels ≡ length (run_in K keys ms a).labels
   pub total : at ≡ length (end_to_end (run_in K keys ms a).labels)
-  pub lists : Lists (run_in K keys ms a) (entries 0 (run_in K keys ms a).labels) buffer buffer' starts starts' lengths lengths'
+  pub lists : Lists (run_in K keys ms a) (entries 0 (run_in K keys ms a).labels)
+      buffer buffer' starts starts' lengths lengths'
 
 -- The first n entries of an index put in order of the labels that they name in a buffer; those behind them stay.
 pub record Ordered (buffer starts lengths : List ℕ) (n : ℕ) (starts' lengths' : List ℕ) : Type 0 where

@@ -1,5 +1,7 @@
--- What the survey leaves for the writing: of each vertex in turn that it is no anchor, or the letters of its walks. Assumes nothing.
-use Rattle.std.specs.Prelude.{ℕ, zero, suc, ◌+◌, ◌≤◌, ◌<◌, ◌≡◌, false, cond, ◌||◌, List, [], ◌∷◌, ◌++◌, map, ltb, eqb, length, get_or, take, drop}
+-- What the survey leaves for the writing: of each vertex in turn that it is no anchor, or the letters of its walks.
+-- Assumes nothing.
+use Rattle.std.specs.Prelude.{ℕ, zero, suc, ◌+◌, ◌≤◌, ◌<◌, ◌≡◌, false, cond, ◌||◌, List, [], ◌∷◌, ◌++◌, map, ltb, eqb}
+use Rattle.std.specs.Prelude.{length, get_or, take, drop}
 use Rattle.dna.specs.Letters.{letter_of, reverse_complement}
 use Rattle.kmer.specs.Kmer.{letters}
 use Rattle.state.specs.declared.Side.TheVariants.{Front, Back}
@@ -9,8 +11,8 @@ use Rattle.marks.specs.Marks.{ends, visits}
 use Rattle.marks.specs.Ready.{keys_for}
 use Rattle.contraction.specs.Over.{run_in}
 
--- The letters of the Back walk with 1 behind them if it closed; else with 0 behind them, and then the letters of the Front walk
--- with 0 behind them.
+-- The letters of the Back walk with 1 behind them if it closed; else with 0 behind them, and then the letters of the
+-- Front walk with 0 behind them.
 abbrev pub piece_of : Walk → Walk → List ℕ
 piece_of back front =
     map letter_of back.bases
@@ -49,7 +51,8 @@ letter_count (b ∷ s) = let rest = letter_count s in cond (ltb 2 b) (suc rest) 
 pub record Ended (s : List ℕ) : Type 0 where
   pub within : letter_count s < length s
 
--- A text begins with an anchor's piece: after the Back walk's letters comes 1, or another byte and the Front walk's letters.
+-- A text begins with an anchor's piece: after the Back walk's letters comes 1, or another byte and the Front walk's
+-- letters.
 pub record Piece (s : List ℕ) : Type 0 where
   pub back_ends : Ended s
   pub front_ends : eqb (get_or s (letter_count s) 0) 1 ≡ false → Ended (drop (letter_count s + 1) s)

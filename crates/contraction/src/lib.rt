@@ -6,6 +6,7 @@ ghost use Rattle.contraction.specs.Says.{refused_fit};
 
 use graph::Step;
 use kmer::Kmer;
+use state::Side;
 use table::FitError;
 
 mod step;
@@ -45,13 +46,30 @@ impl From<FitError> for ContractError {
     }
 }
 
-// The three bytes of a trail that are no letters. STOPPED stands behind a walk, but behind a Back walk that closed a cycle stands
-// CLOSED; SKIPPED stands for a vertex that is no anchor.
+// The three bytes of a trail that are no letters. STOPPED stands behind a walk, but behind a Back walk that closed a
+// cycle stands CLOSED; SKIPPED stands for a vertex that is no anchor.
 const STOPPED: u8 = 0;
 
 const CLOSED: u8 = 1;
 
 const SKIPPED: u8 = 2;
+
+// The keys of a graph as walks look them up: K, two words for each vertex, and a directory of whatever content. That
+// they are fit is no ghost field: `Ready` says it of so many keys as there are marks, which are lent apart to be
+// written.
+#[derive(Clone, Copy)]
+struct Graph<'a> {
+    k: usize,
+    keys: &'a [u64],
+    directory: &'a [u32],
+}
+
+// Where a walk starts: an anchor, left by a side.
+#[derive(Clone, Copy)]
+struct Start {
+    anchor: usize,
+    side: Side,
+}
 
 // A walk: how many bases it appends, and the step at which it ends.
 #[derive(Clone, Copy)]
@@ -65,6 +83,14 @@ struct Walked {
 struct Strands {
     here: Kmer,
     other: Kmer,
+}
+
+// Where a walk stands: at a vertex that it is to leave by a side, whose k-mer it sees as its strands say.
+#[derive(Clone, Copy)]
+struct Stand {
+    vertex: usize,
+    side: Side,
+    strands: Strands,
 }
 
 // A label: its length, and where its walks end in the trail.

@@ -5,9 +5,8 @@ ghost use Rattle.marks.specs.Ready.{Ready};
 ghost use Rattle.contraction.specs.Over.{walk_in};
 ghost use Rattle.contraction.specs.Says.{Spells};
 
-use super::{Walked, step};
+use super::{Graph, Stand, Start, Walked};
 use graph::{Step, StopReason};
-use state::Side;
 
 // The walk closed a cycle.
 pub(crate) fn is_closed(last: Step) -> bool
@@ -23,34 +22,42 @@ pub(crate) fn is_missing(last: Step) -> bool
     matches!(last, Step::Missing)
 }
 
-// The walk from an anchor by a side, its letters written from a place of the buffer on.
-pub(crate) fn spell(
-    k: usize,
-    keys: &[u64],
-    directory: &[u32],
-    marks: &mut [u8],
-    anchor: usize,
-    start: Side,
-    buffer: &mut [u8],
-    at: usize,
-) -> Walked
-    requires { Ready k keys.now marks.old × (anchor < length marks.old) × (at + length (walk_in k keys.now marks.old anchor start).bases ≤ length buffer.old) }
-    ensures { Spells k keys.now marks.old anchor start result marks.new buffer.old at buffer.new }
-{
-    let mut bases: usize = 0;
-    let mut v = anchor;
-    let mut s = start;
-    let mut strands = step::strands_of(k, keys, marks, anchor, start);
-    loop {
-        let last = step::advance(k, keys, directory, marks, anchor, start, v, s, strands);
-        let Step::Next { vertex, side, base } = last else {
-            return Walked { bases, last };
+impl Graph<'_> {
+    // The walk from a start, its letters written from a place of the buffer on.
+    pub(crate) fn spell(
+        &self,
+        marks: &mut [u8],
+        start: Start,
+        buffer: &mut [u8],
+        at: usize,
+    ) -> Walked
+        requires { Ready self.now.k self.now.keys.now marks.old × (start.anchor < length marks.old)
+            × (at + length (walk_in self.now.k self.now.keys.now marks.old start.anchor start.side).bases
+            ≤ length buffer.old) }
+        ensures { Spells self.now.k self.now.keys.now marks.old start.anchor start.side result marks.new
+            buffer.old at buffer.new }
+    {
+        let mut bases: usize = 0;
+        let mut stand = Stand {
+            vertex: start.anchor,
+            side: start.side,
+            strands: self.strands_of(marks, start.anchor, start.side),
         };
-        let letter = marks::base_of(base);
-        strands = step::rolled(k, strands, letter);
-        buffer[at + bases] = letter.to_ascii();
-        v = vertex;
-        s = side;
-        bases += 1;
+        loop {
+            let last = self.advance(marks, start, stand);
+            let Step::Next { vertex, side, base } = last else {
+                return Walked { bases, last };
+            };
+            let letter = marks::base_of(base);
+            // Rolled before the letter is written: the other way round a step takes a tenth longer.
+            let strands = stand.strands.rolled(self.k, letter);
+            buffer[at + bases] = letter.to_ascii();
+            stand = Stand {
+                vertex,
+                side,
+                strands,
+            };
+            bases += 1;
+        }
     }
 }

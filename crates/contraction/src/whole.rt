@@ -18,11 +18,11 @@ fn lacks_room(buffer: usize, starts: usize, lengths: usize, all: Unitigs) -> boo
     buffer < all.bases || starts < all.labels || lengths < all.labels
 }
 
-// The index put in byte order of the labels that it names. They are canonical and no two are the same, so there is no more to do.
+// The index put in byte order of the labels that it names. They are canonical and no two are the same, so there is no
+// more to do.
 fn normalize_unitigs(labels: &[u8], starts: &mut [u32], lengths: &mut [u32], count: usize)
     requires { (count ≤ length starts.old) × (count ≤ length lengths.old) }
-    ensures { Ordered labels.now starts.old lengths.old count
-        starts.new lengths.new }
+    ensures { Ordered labels.now starts.old lengths.old count starts.new lengths.new }
 {
     let _sorted = sorting::sort_index(labels, starts, lengths, count);
 }
@@ -41,15 +41,18 @@ fn write_list(
         × Roomy k keys.now marks.old (length labels.old) (length starts.old) (length lengths.old) }
     ensures { let run = run_in k keys.now marks.old (length marks.old) in
         (marks.new ≡ visits marks.old)
-        × Lists run (sorted (entries 0 run.labels)) labels.old labels.new starts.old starts.new lengths.old lengths.new }
+        × Lists run (sorted (entries 0 run.labels))
+        labels.old labels.new starts.old starts.new lengths.old lengths.new }
 {
     let count = write::write_labels(k, keys, marks, trail, labels, starts, lengths);
     marks::settle(marks);
     normalize_unitigs(labels, starts, lengths, count);
 }
 
-// A fit table of as many vertices as there are marks. All walks are followed before the first byte is written: the trail has two
-// bytes for each of at most 65,536 vertices, which is enough. Where nothing is written, the marks are 0 afterwards.
+// A fit table of as many vertices as there are marks. All walks are followed before the first byte is written: the
+// trail has two bytes for each of at most 65,536 vertices, which is enough. Where nothing is written, the marks are 0
+// afterwards. Labels, starts and lengths go one by one: a struct of `&mut` asks a clause for each of its references
+// too.
 fn contract_fit(
     kind: EdgeKind,
     k: usize,
@@ -63,7 +66,8 @@ fn contract_fit(
 ) -> Result<Unitigs, ContractError>
     requires { FitTable k keys.now counts.now marks.old }
     ensures { Contracts result labels.new starts.new lengths.new marks.new
-        (finish_in (kind_of kind) k cutoff (length marks.old) keys.now counts.now labels.old starts.old lengths.old marks.old) }
+        (finish_in (kind_of kind) k cutoff (length marks.old) keys.now counts.now
+        labels.old starts.old lengths.old marks.old) }
 {
     let mut trail = [0u8; 131072];
     marks::digest(kind, counts, cutoff, marks);

@@ -31,7 +31,8 @@ fn canonicalize_part(buffer: &mut [u8], at: usize, n: usize)
     strands::canonical_label(&mut buffer[at..at + n]);
 }
 
-// How many letters a walk has in the trail, up to the byte that ends it: a letter is above all three bytes that are none.
+// How many letters a walk has in the trail, up to the byte that ends it: a letter is above all three bytes that are
+// none.
 fn walk_length(trail: &[u8], from: usize) -> usize
     requires { Ended (drop from trail.now) }
     ensures { result ≡ letter_count (drop from trail.now) }
@@ -59,8 +60,8 @@ fn copy_turned(trail: &[u8], from: usize, n: usize, buffer: &mut [u8], at: usize
     strands::turn(&mut buffer[at..at + n]);
 }
 
-// An anchor's label, made in its place: the Front walk on the other strand, the anchor's k-mer, the Back walk; or, where the Back
-// walk closed, the k-mer and the Back walk.
+// An anchor's label, made in its place: the Front walk on the other strand, the anchor's k-mer, the Back walk; or,
+// where the Back walk closed, the k-mer and the Back walk.
 fn write_label(k: usize, x: Kmer, trail: &[u8], from: usize, buffer: &mut [u8], at: usize) -> Label
     requires { (ok_k k ≡ true) × (value_of x < 4 ^ k) × Piece (drop from trail.now)
         × (at + length (label_from k (value_of x) (drop from trail.now)) ≤ length buffer.old) }

@@ -1,4 +1,5 @@
--- Each refusal is a case of the definition, in its order; what is left is the contraction of a fit table. Assumes nothing.
+-- Each refusal is a case of the definition, in its order; what is left is the contraction of a fit table. Assumes
+-- nothing.
 use mathlib.Core.Path.{sym, ◌∙◌}
 use Rattle.std.proofs.lemmas.Result.{err_from_is_err_and}
 use Rattle.contraction.proofs.Firsts.{first_marks}
@@ -17,19 +18,22 @@ returns-in_err-fit c =
 pub returns-then-not-answers_for : goal.returns-then-not-answers_for
 returns-then-not-answers_for c =
     let a = c.args in
-    wrong_cutoff (kind_of a.kind) a.k a.cutoff a.n a.keys.now a.counts.now a.labels.now a.starts.now a.lengths.now a.marks.now
+    wrong_cutoff (kind_of a.kind) a.k a.cutoff a.n a.keys.now a.counts.now a.labels.now a.starts.now a.lengths.now
+    a.marks.now
     c.fit.ensures c.in_ok-fit.was (sym c.answers_for.ensures ∙ c.if-not-answers_for.true)
 
 pub returns-then-marks-n : goal.returns-then-marks-n
 returns-then-marks-n c =
     let a = c.args in
-    few_marks (kind_of a.kind) a.k a.cutoff a.n a.keys.now a.counts.now a.labels.now a.starts.now a.lengths.now a.marks.now
+    few_marks (kind_of a.kind) a.k a.cutoff a.n a.keys.now a.counts.now a.labels.now a.starts.now a.lengths.now
+    a.marks.now
     c.fit.ensures c.in_ok-fit.was (sym c.answers_for.ensures ∙ c.if-not-answers_for.false) c.if-marks-n.true
 
 pub contract_fit-requires : goal.contract_fit-requires
 contract_fit-requires c =
     let a = c.args in
-    lent_first (kind_of a.kind) a.k a.cutoff a.n a.keys.now a.counts.now a.labels.now a.starts.now a.lengths.now a.marks.now
+    lent_first (kind_of a.kind) a.k a.cutoff a.n a.keys.now a.counts.now a.labels.now a.starts.now a.lengths.now
+    a.marks.now
     c.fit.ensures c.in_ok-fit.was c.if-marks-n.false
 
 pub returns : goal.returns

@@ -22,8 +22,10 @@ pub returns-in-Err : goal.returns-in-Err
 returns-in-Err c =
     let a = c.args in
     rw c.in-Err.ensures.0
-    (missing_vertex (kind_of a.kind) a.k a.cutoff a.keys.now a.counts.now a.labels.now a.starts.now a.lengths.now a.marks.now
-    c.requires c.digest.ensures c.in-Err.ensures.1 c.survey.new.marks c.clear-in-Err.ensures (c.survey.auto.marks ∙ c.digest.auto.marks))
+    (missing_vertex (kind_of a.kind) a.k a.cutoff a.keys.now a.counts.now a.labels.now a.starts.now a.lengths.now
+    a.marks.now
+    c.requires c.digest.ensures c.in-Err.ensures.1 c.survey.new.marks c.clear-in-Err.ensures
+    (c.survey.auto.marks ∙ c.digest.auto.marks))
 
 pub returns-in-Ok : goal.returns-in-Ok
 returns-in-Ok c =

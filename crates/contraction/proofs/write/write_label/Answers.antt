@@ -1,7 +1,8 @@
 -- The texts of the label are placed one behind the other, and made the smaller strand. Assumes nothing.
 use native.Mathlib.Omega.{arith}
 use Rattle.kmer.specs.Says.{value_of}
-use Rattle.contraction.proofs.Writing.{Legible, back_inside, fits_closed, room_closed, whole_closed, written_closed, front_inside, fits_open, kmer_room, back_room, whole_open, written_open}
+use Rattle.contraction.proofs.Writing.{Legible, back_inside, fits_closed, room_closed, whole_closed, written_closed}
+use Rattle.contraction.proofs.Writing.{front_inside, fits_open, kmer_room, back_room, whole_open, written_open}
 use Rattle.contraction.proofs.write.write_label.Goals as goal
 
 pub put_letters-requires : goal.put_letters-requires
@@ -46,8 +47,12 @@ pub put_letters-requires-2 : goal.put_letters-requires-2
 put_letters-requires-2 c =
     let a = c.args in
     let y : Legible a.k (value_of a.x) a.trail.now a.from a.buffer.now a.at c.walk_length-back.result =
-    record { piece = c.requires.2; room = c.requires.3; back = c.walk_length-back.ensures } in
-    (c.requires.0, c.requires.1, kmer_room y c.if-trail-stop-eq-CLOSED.false c.walk_length-front.ensures c.copy_turned.ensures)
+    record { piece = c.requires.2; room = c.requires.3; back = c.walk_length-back.ensures } in (
+      c.requires.0,
+      c.requires.1,
+      kmer_room y c.if-trail-stop-eq-CLOSED.false c.walk_length-front.ensures
+          c.copy_turned.ensures,
+    )
 
 pub overflow_add-at-4 : goal.overflow_add-at-4
 overflow_add-at-4 c =
@@ -62,7 +67,8 @@ copy_walk-requires-2 c =
     let y : Legible a.k (value_of a.x) a.trail.now a.from a.buffer.now a.at c.walk_length-back.result =
     record { piece = c.requires.2; room = c.requires.3; back = c.walk_length-back.ensures } in (
       omega (arith, back_inside y),
-      back_room y c.if-trail-stop-eq-CLOSED.false c.walk_length-front.ensures c.copy_turned.ensures c.put_letters-2.ensures,
+      back_room y c.if-trail-stop-eq-CLOSED.false c.walk_length-front.ensures c.copy_turned.ensures
+          c.put_letters-2.ensures,
     )
 
 pub canonicalize_part-requires-2 : goal.canonicalize_part-requires-2

@@ -19,10 +19,19 @@ write_label-label-requires c =
     let g = c.loop-a.invariant in
     let l = c.loop-a-test.true in
     let taken = c.if-trail-from-eq-SKIPPED.false in
-    rw c.key_at.ensures (g.ready.ok, anchor_small g.ready c.loop-a.a l, piece_here (standing g l) taken, (ahead g l taken).room)
+    rw c.key_at.ensures (
+      g.ready.ok,
+      anchor_small g.ready c.loop-a.a l,
+      piece_here (standing g l) taken,
+      (ahead g l taken).room,
+    )
 
 pub overflow_cast-starts : goal.overflow_cast-starts
-overflow_cast-starts c = omega (arith, (ahead c.loop-a.invariant c.loop-a-test.true c.if-trail-from-eq-SKIPPED.false).small)
+overflow_cast-starts c = omega (
+  arith,
+  (ahead c.loop-a.invariant c.loop-a-test.true
+      c.if-trail-from-eq-SKIPPED.false).small,
+)
 
 pub bounds-starts-labels : goal.bounds-starts-labels
 bounds-starts-labels c = (ahead c.loop-a.invariant c.loop-a-test.true c.if-trail-from-eq-SKIPPED.false).start_room
@@ -36,7 +45,8 @@ pub bounds-lengths-labels : goal.bounds-lengths-labels
 bounds-lengths-labels c = (ahead c.loop-a.invariant c.loop-a-test.true c.if-trail-from-eq-SKIPPED.false).length_room
 
 pub loop-a-preserved-then-trail-from-eq-SKIPPED : goal.loop-a-preserved-then-trail-from-eq-SKIPPED
-loop-a-preserved-then-trail-from-eq-SKIPPED c = listed_skip c.loop-a.invariant c.loop-a-test.true c.if-trail-from-eq-SKIPPED.true
+loop-a-preserved-then-trail-from-eq-SKIPPED c = listed_skip c.loop-a.invariant c.loop-a-test.true
+    c.if-trail-from-eq-SKIPPED.true
 
 pub loop-a-preserved : goal.loop-a-preserved
 loop-a-preserved c =

@@ -4,4 +4,5 @@ use Rattle.contraction.proofs.write.write_labels.Given as goal
 
 abbrev pub invariant-loop-a : goal.invariant-loop-a
 invariant-loop-a l =
-    Listed l.k l.keys l.marks l.trail l.initial.buffer l.initial.starts l.initial.lengths l.labels l.at l.from l.a l.buffer l.starts l.lengths
+    Listed l.k l.keys l.marks l.trail l.initial.buffer l.initial.starts l.initial.lengths l.labels l.at l.from l.a
+    l.buffer l.starts l.lengths

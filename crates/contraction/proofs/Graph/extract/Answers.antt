@@ -2,7 +2,7 @@
 use mathlib.Core.Path.{sym, ◌∙◌}
 use Rattle.contraction.proofs.Labelling.{extracts_closed, extracts_open, misses_back, misses_front}
 use Rattle.contraction.proofs.Tracing.{Asked, end_closed, traced_closed, end_open, traced_open}
-use Rattle.contraction.proofs.survey.extract.Goals as goal
+use Rattle.contraction.proofs.Graph.extract.Goals as goal
 
 pub returns-then-is_missing : goal.returns-then-is_missing
 returns-then-is_missing c =
@@ -11,7 +11,7 @@ returns-then-is_missing c =
 pub returns-then-is_closed : goal.returns-then-is_closed
 returns-then-is_closed c =
     let a = c.args in
-    let y : Asked a.k a.keys.now a.marks.now a.a a.trail.now a.at =
+    let y : Asked a.self.now.k a.self.now.keys.now a.marks.now a.a a.trail.now a.at =
     record { ready = c.requires.0; vertex = c.requires.1; room = c.requires.2 } in
     let e = sym c.is_closed.ensures ∙ c.if-is_closed.true in
     let w = c.spell-back.ensures in
@@ -26,7 +26,7 @@ returns-then-is_missing-2 c =
 pub returns : goal.returns
 returns c =
     let a = c.args in
-    let y : Asked a.k a.keys.now a.marks.now a.a a.trail.now a.at =
+    let y : Asked a.self.now.k a.self.now.keys.now a.marks.now a.a a.trail.now a.at =
     record { ready = c.requires.0; vertex = c.requires.1; room = c.requires.2 } in
     let o = sym c.is_closed.ensures ∙ c.if-is_closed.false in
     let b = c.spell-back.ensures in

@@ -5,10 +5,13 @@ use Rattle.std.proofs.lemmas.Result.{err_from_is_err_and}
 use Rattle.marks.proofs.Still.{ready_still}
 use Rattle.contraction.proofs.Paving.{paving_start, paving_length, skip_fits, paving_skip, piece_fits, paving_take}
 use Rattle.contraction.proofs.Surveying.{surveying_start, surveying_skip, surveying_take, surveying_misses}
-use Rattle.contraction.proofs.survey.follow_all.Goals as goal
+use Rattle.contraction.proofs.Graph.follow_all.Goals as goal
 
 pub loop-a-init : goal.loop-a-init
-loop-a-init c = (surveying_start c.requires.0 c.requires.1, paving_start c.args.k c.args.keys.now c.args.marks.now c.args.trail.now c.requires.2)
+loop-a-init c = (
+  surveying_start c.requires.0 c.requires.1,
+  paving_start c.args.self.now.k c.args.self.now.keys.now c.args.marks.now c.args.trail.now c.requires.2,
+)
 
 pub bounds-trail-at : goal.bounds-trail-at
 bounds-trail-at c =

@@ -4,15 +4,16 @@ use Rattle.dna.specs.Letters.{letter_of}
 use Rattle.kmer.specs.Kmer.{forward}
 use Rattle.contraction.proofs.Rolling.{both_on}
 use Rattle.contraction.proofs.Stepping.{code_small}
-use Rattle.contraction.proofs.Walking.{walking_start, walking_less, walking_next, walking_base, walking_seen, walking_ends, not_next}
+use Rattle.contraction.proofs.Walking.{walking_start, walking_less, walking_next, walking_base, walking_seen}
+use Rattle.contraction.proofs.Walking.{walking_ends, not_next}
 use Rattle.contraction.proofs.Spelling.{spelling_start, spelling_length, spelling_next, spelling_ends}
-use Rattle.contraction.proofs.walk.spell.Goals as goal
+use Rattle.contraction.proofs.Graph.spell.Goals as goal
 
 pub loop-vertex-init : goal.loop-vertex-init
 loop-vertex-init c = (
-  walking_start c.requires.0 c.args.anchor c.args.start c.requires.1,
+  walking_start c.requires.0 c.args.start.anchor c.args.start.side c.requires.1,
   spelling_start _ _ c.args.at c.requires.2,
-  c.strands_of-strands.ensures,
+  c.strands_of.ensures,
 )
 
 pub bounds-buffer-at : goal.bounds-buffer-at
@@ -41,4 +42,5 @@ loop-vertex-preserved c =
 pub returns-in_default : goal.returns-in_default
 returns-in_default c =
     let g = c.loop-vertex.invariant in
-    spelling_ends (walking_ends g.0 c.advance-last.ensures refl (not_next c.advance-last.result c.in_default.not-Next)) g.1
+    spelling_ends (walking_ends g.0 c.advance-last.ensures refl (not_next c.advance-last.result c.in_default.not-Next))
+    g.1
