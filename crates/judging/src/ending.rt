@@ -7,50 +7,30 @@ ghost use Rattle.marks.specs.Ready.{keys_for, Ready};
 ghost use Rattle.judging.specs.Places.{is_held};
 ghost use Rattle.judging.specs.Passing.{labels_in, Finds};
 
-use super::{places, seeing};
+use super::{Graph, places};
 
 // An end of a label is loose.
-pub(crate) fn has_loose_end(
-    k: usize,
-    keys: &[u64],
-    directory: &[u32],
-    marks: &[u8],
-    label: &[u8],
-) -> bool
-    requires { Ready k keys.now marks.now × Label k label.now }
-    ensures { result ≡ breaks4 k (keys_for marks.now keys.now) (ends marks.now) []
+fn has_loose_end(graph: &Graph, marks: &[u8], label: &[u8]) -> bool
+    requires { Ready graph.now.k graph.now.keys.now marks.now × Label graph.now.k label.now }
+    ensures { result ≡ breaks4 graph.now.k (keys_for marks.now graph.now.keys.now) (ends marks.now) []
         label.now }
 {
-    let first = seeing::see_window(k, keys, directory, marks, label, 0);
-    let last = seeing::see_window(k, keys, directory, marks, label, label.len() - k);
-    seeing::is_loose(k, keys, directory, marks, first, last)
-        || seeing::is_loose(
-            k,
-            keys,
-            directory,
-            marks,
-            seeing::turned(last),
-            seeing::turned(first),
-        )
+    let first = graph.see_window(marks, label, 0);
+    let last = graph.see_window(marks, label, label.len() - graph.k);
+    graph.is_loose(marks, first, last) || graph.is_loose(marks, last.turned(), first.turned())
 }
 
 // The first label with a loose end.
-pub(crate) fn first_loose(
-    k: usize,
-    keys: &[u64],
-    directory: &[u32],
-    marks: &[u8],
-    text: &[u8],
-) -> Option<usize>
-    requires { Ready k keys.now marks.now × (is_held (listing k text.now) ≡ true) }
-    ensures { Finds (breaks4 k (keys_for marks.now keys.now) (ends marks.now))
-        (labels_in (listing k text.now)) result }
+pub(crate) fn first_loose(graph: &Graph, marks: &[u8], text: &[u8]) -> Option<usize>
+    requires { Ready graph.now.k graph.now.keys.now marks.now × (is_held (listing graph.now.k text.now) ≡ true) }
+    ensures { Finds (breaks4 graph.now.k (keys_for marks.now graph.now.keys.now) (ends marks.now))
+        (labels_in (listing graph.now.k text.now)) result }
 {
     let mut i = 0;
     let mut at = 0;
     while at < text.len() {
         let label = places::label_at(text, at);
-        if has_loose_end(k, keys, directory, marks, &text[label.start..label.end]) {
+        if has_loose_end(graph, marks, &text[label.start..label.end]) {
             return Some(i);
         }
         i += 1;

@@ -13,38 +13,27 @@ ghost use Rattle.judging.specs.Places.{is_held};
 ghost use Rattle.judging.specs.Passing.{labels_in};
 ghost use Rattle.judging.specs.Answers.{judge_answer, Judges, ends_verdict, kmers_verdict};
 
-use super::{Broken, JudgeError, ending, order, places, standing};
+use super::{Broken, Graph, JudgeError, ending, order, places, standing};
 use state::EdgeKind;
 
 // Rule 4 of a list that keeps the others.
-fn judge_ends(
-    k: usize,
-    keys: &[u64],
-    directory: &[u32],
-    marks: &[u8],
-    text: &[u8],
-) -> Option<Broken>
-    requires { Ready k keys.now marks.now × (is_held (listing k text.now) ≡ true) }
-    ensures { judge_answer (Ok result) ≡ gives (ends_verdict k (keys_for marks.now keys.now)
-        (ends marks.now) (labels_in (listing k text.now))) }
+fn judge_ends(graph: &Graph, marks: &[u8], text: &[u8]) -> Option<Broken>
+    requires { Ready graph.now.k graph.now.keys.now marks.now × (is_held (listing graph.now.k text.now) ≡ true) }
+    ensures { judge_answer (Ok result) ≡ gives (ends_verdict graph.now.k (keys_for marks.now graph.now.keys.now)
+        (ends marks.now) (labels_in (listing graph.now.k text.now))) }
 {
-    let label = ending::first_loose(k, keys, directory, marks, text)?;
+    let label = ending::first_loose(graph, marks, text)?;
     Some(Broken { rule: 4, label })
 }
 
-// Rules 2 to 4, by marks that hold each vertex's edges, none of them visited, and a directory of whatever content.
-fn judge_kmers(
-    k: usize,
-    keys: &[u64],
-    directory: &[u32],
-    marks: &mut [u8],
-    text: &[u8],
-) -> Option<Broken>
-    requires { Ready k keys.now marks.old × Unvisited marks.old × (is_held (listing k text.now) ≡ true) }
-    ensures { judge_answer (Ok result) ≡ gives (kmers_verdict k (keys_for marks.old keys.now)
-        (ends marks.old) (labels_in (listing k text.now))) }
+// Rules 2 to 4, by marks that hold each vertex's edges, none of them visited.
+fn judge_kmers(graph: &Graph, marks: &mut [u8], text: &[u8]) -> Option<Broken>
+    requires { Ready graph.now.k graph.now.keys.now marks.old × Unvisited marks.old
+        × (is_held (listing graph.now.k text.now) ≡ true) }
+    ensures { judge_answer (Ok result) ≡ gives (kmers_verdict graph.now.k (keys_for marks.old graph.now.keys.now)
+        (ends marks.old) (labels_in (listing graph.now.k text.now))) }
 {
-    let all = match standing::try_labels(k, keys, directory, marks, text) {
+    let all = match standing::try_labels(graph, marks, text) {
         Ok(all) => all,
         Err(label) => return Some(Broken { rule: 2, label }),
     };
@@ -56,7 +45,7 @@ fn judge_kmers(
     }
     match all.bad {
         Some(label) => Some(Broken { rule: 3, label }),
-        None => judge_ends(k, keys, directory, marks, text),
+        None => judge_ends(graph, marks, text),
     }
 }
 
@@ -69,7 +58,7 @@ fn judge_directed(k: usize, keys: &[u64], marks: &mut [u8], text: &[u8]) -> Opti
     let mut cells = [0u32; 16385];
     let directory = &mut cells[..directory::cells_for(marks.len())];
     directory::make(k, marks.len(), keys, directory);
-    judge_kmers(k, keys, directory, marks, text)
+    judge_kmers(&Graph { k, keys, directory }, marks, text)
 }
 
 // A list over a fit table of as many vertices as there are marks, which are 0 afterwards.

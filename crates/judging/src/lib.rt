@@ -47,6 +47,14 @@ impl From<FitError> for JudgeError {
     }
 }
 
+// The keys of a graph as they are looked up: K, two words for each vertex, and a directory of whatever content.
+#[derive(Clone, Copy)]
+struct Graph<'a> {
+    k: usize,
+    keys: &'a [u64],
+    directory: &'a [u32],
+}
+
 // Where a label stands in a text.
 #[derive(Clone, Copy)]
 struct Span {

@@ -10,9 +10,10 @@ use Rattle.judging.proofs.ending.first_loose.Goals as goal
 
 pub loop-at-init : goal.loop-at-init
 loop-at-init c =
-    let a = c.args in (
+    let a = c.args in
+    let g = a.graph.now in (
       [],
-      pass_start a.k a.text.now (breaks4 a.k (keys_for a.marks.now a.keys.now)
+      pass_start g.k a.text.now (breaks4 g.k (keys_for a.marks.now g.keys.now)
           (ends a.marks.now)) c.requires.1,
     )
 
@@ -20,16 +21,18 @@ pub label_at-label-requires : goal.label_at-label-requires
 label_at-label-requires c =
     let l = c.loop-at in
     let a = c.args in
-    pass_record a.k a.text.now (breaks4 a.k (keys_for a.marks.now a.keys.now) (ends a.marks.now))
+    let g = a.graph.now in
+    pass_record g.k a.text.now (breaks4 g.k (keys_for a.marks.now g.keys.now) (ends a.marks.now))
     l.invariant.1 c.loop-at-test.true
 
 pub has_loose_end-requires : goal.has_loose_end-requires
 has_loose_end-requires c =
     let l = c.loop-at in
-    let a = c.args in (
+    let a = c.args in
+    let g = a.graph.now in (
       c.requires.0,
-      pass_label a.k a.text.now
-          (breaks4 a.k (keys_for a.marks.now a.keys.now) (ends a.marks.now)) l.invariant.1
+      pass_label g.k a.text.now
+          (breaks4 g.k (keys_for a.marks.now g.keys.now) (ends a.marks.now)) l.invariant.1
           c.loop-at-test.true c.label_at-label.ensures,
     )
 
@@ -37,24 +40,26 @@ pub returns-then-has_loose_end : goal.returns-then-has_loose_end
 returns-then-has_loose_end c =
     let l = c.loop-at in
     let a = c.args in
-    let g = c.label_at-label in
-    pass_found a.k a.text.now (breaks4 a.k (keys_for a.marks.now a.keys.now) (ends a.marks.now))
-    l.invariant.1 c.loop-at-test.true g.ensures
-    (c.has_loose_end.ensures ∙ any_done_4 a.k (keys_for a.marks.now a.keys.now)
-    (ends a.marks.now) l.invariant.0 (part a.text.now g.result.start (g.result.end - g.result.start)))
+    let g = a.graph.now in
+    let m = c.label_at-label in
+    pass_found g.k a.text.now (breaks4 g.k (keys_for a.marks.now g.keys.now) (ends a.marks.now))
+    l.invariant.1 c.loop-at-test.true m.ensures
+    (c.has_loose_end.ensures ∙ any_done_4 g.k (keys_for a.marks.now g.keys.now)
+    (ends a.marks.now) l.invariant.0 (part a.text.now m.result.start (m.result.end - m.result.start)))
     c.if-has_loose_end.true
 
 pub loop-at-preserved : goal.loop-at-preserved
 loop-at-preserved c =
     let l = c.loop-at in
     let a = c.args in
-    let g = c.label_at-label in (
-      (part a.text.now g.result.start (g.result.end - g.result.start)) ∷ l.invariant.0,
-      pass_on a.k
-          a.text.now (breaks4 a.k (keys_for a.marks.now a.keys.now) (ends a.marks.now)) l.invariant.1
-          c.loop-at-test.true g.ensures
-          (c.has_loose_end.ensures ∙ any_done_4 a.k (keys_for a.marks.now a.keys.now)
-          (ends a.marks.now) l.invariant.0 (part a.text.now g.result.start (g.result.end - g.result.start)))
+    let g = a.graph.now in
+    let m = c.label_at-label in (
+      (part a.text.now m.result.start (m.result.end - m.result.start)) ∷ l.invariant.0,
+      pass_on g.k
+          a.text.now (breaks4 g.k (keys_for a.marks.now g.keys.now) (ends a.marks.now)) l.invariant.1
+          c.loop-at-test.true m.ensures
+          (c.has_loose_end.ensures ∙ any_done_4 g.k (keys_for a.marks.now g.keys.now)
+          (ends a.marks.now) l.invariant.0 (part a.text.now m.result.start (m.result.end - m.result.start)))
           c.if-has_loose_end.false,
     )
 
@@ -62,5 +67,6 @@ pub returns : goal.returns
 returns c =
     let l = c.loop-at in
     let a = c.args in
-    pass_end a.k a.text.now (breaks4 a.k (keys_for a.marks.now a.keys.now) (ends a.marks.now))
+    let g = a.graph.now in
+    pass_end g.k a.text.now (breaks4 g.k (keys_for a.marks.now g.keys.now) (ends a.marks.now))
     l.invariant.1 c.loop-at-test.false

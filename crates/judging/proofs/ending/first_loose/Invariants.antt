@@ -10,7 +10,8 @@ use Rattle.judging.proofs.ending.first_loose.Given as goal
 
 abbrev pub invariant-loop-at : goal.invariant-loop-at
 invariant-loop-at l =
-    (done : List (List ℕ)) × Passing l.k l.text (breaks4 l.k (keys_for l.marks l.keys) (ends l.marks)) done l.i l.at
+    (done : List (List ℕ))
+    × Passing l.graph.k l.text (breaks4 l.graph.k (keys_for l.marks l.graph.keys.now) (ends l.marks)) done l.i l.at
 
 abbrev pub decreases-loop-at : goal.decreases-loop-at
 decreases-loop-at l = length l.text - l.at

@@ -12,13 +12,15 @@ use Rattle.judging.proofs.ending.has_loose_end.Goals as goal
 pub see_window-first-requires : goal.see_window-first-requires
 see_window-first-requires c =
     let a = c.args in
-    let h : a.k ≤ length a.label.now = c.requires.1.1 in
+    let g = a.graph.now in
+    let h : g.k ≤ length a.label.now = c.requires.1.1 in
     (c.requires.0, plain_bases a.label.now c.requires.1.0, omega arith)
 
 pub see_window-last-requires : goal.see_window-last-requires
 see_window-last-requires c =
     let a = c.args in
-    let h : a.k ≤ length a.label.now = c.requires.1.1 in
+    let g = a.graph.now in
+    let h : g.k ≤ length a.label.now = c.requires.1.1 in
     (c.requires.0, plain_bases a.label.now c.requires.1.0, omega arith)
 
 pub is_loose-requires : goal.is_loose-requires
@@ -29,7 +31,8 @@ is_loose-requires c =
 pub returns-then-is_loose : goal.returns-then-is_loose
 returns-then-is_loose c =
     let a = c.args in
-    end_loose a.k c.requires.0.ok a.label.now c.requires.1 (keys_for a.marks.now a.keys.now)
+    let g = a.graph.now in
+    end_loose g.k c.requires.0.ok a.label.now c.requires.1 (keys_for a.marks.now g.keys.now)
     (ends a.marks.now) c.see_window-first.ensures c.see_window-last.ensures
     c.is_loose.ensures c.if-is_loose.true
 
@@ -44,7 +47,8 @@ is_loose-requires-else-is_loose c =
 pub returns-else-is_loose : goal.returns-else-is_loose
 returns-else-is_loose c =
     let a = c.args in
-    end_other a.k c.requires.0.ok a.label.now c.requires.1 (keys_for a.marks.now a.keys.now)
+    let g = a.graph.now in
+    end_other g.k c.requires.0.ok a.label.now c.requires.1 (keys_for a.marks.now g.keys.now)
     (ends a.marks.now) c.see_window-first.ensures c.see_window-last.ensures
     c.is_loose.ensures c.if-is_loose.false c.turned.ensures
     c.turned-else-is_loose.ensures c.is_loose-else-is_loose.ensures

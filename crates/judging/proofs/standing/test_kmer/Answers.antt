@@ -7,35 +7,41 @@ use Rattle.judging.proofs.standing.test_kmer.Goals as goal
 pub returns-in_default : goal.returns-in_default
 returns-in_default c =
     let a = c.args in
-    kmer_gap c.requires.0 a.directory.now a.label.now a.o (value_of a.c) a.side c.find.ensures
+    let g = a.graph.now in
+    kmer_gap c.requires.0 g.directory.now a.label.now a.o (value_of a.c) a.side c.find.ensures
     c.in_default.is
 
 pub returns-then-is_skipped : goal.returns-then-is_skipped
 returns-then-is_skipped c =
     let a = c.args in
-    kmer_skipped c.requires.0 a.directory.now a.label.now a.o (value_of a.c) a.side c.find.ensures
+    let g = a.graph.now in
+    kmer_skipped c.requires.0 g.directory.now a.label.now a.o (value_of a.c) a.side c.find.ensures
     c.in-Ok.is c.is_skipped.ensures c.if-is_skipped.true
 
 pub bounds-marks-v : goal.bounds-marks-v
 bounds-marks-v c =
     let a = c.args in
-    at_lt c.requires.0 a.directory.now (value_of a.c) c.find.ensures c.in-Ok.is
+    let g = a.graph.now in
+    at_lt c.requires.0 g.directory.now (value_of a.c) c.find.ensures c.in-Ok.is
 
 pub bounds-marks-v-2 : goal.bounds-marks-v-2
 bounds-marks-v-2 c =
     let a = c.args in
-    at_lt c.requires.0 a.directory.now (value_of a.c) c.find.ensures c.in-Ok.is
+    let g = a.graph.now in
+    at_lt c.requires.0 g.directory.now (value_of a.c) c.find.ensures c.in-Ok.is
 
 pub returns-then-is_joined : goal.returns-then-is_joined
 returns-then-is_joined c =
     let a = c.args in
-    kmer_fine c.requires.0 a.directory.now a.label.now a.o (value_of a.c) a.side c.find.ensures
+    let g = a.graph.now in
+    kmer_fine c.requires.0 g.directory.now a.label.now a.o (value_of a.c) a.side c.find.ensures
     c.in-Ok.is c.is_skipped.ensures c.if-is_skipped.false
     c.is_joined.ensures c.if-is_joined.true
 
 pub returns-else-is_joined : goal.returns-else-is_joined
 returns-else-is_joined c =
     let a = c.args in
-    kmer_bad c.requires.0 a.directory.now a.label.now a.o (value_of a.c) a.side c.find.ensures
+    let g = a.graph.now in
+    kmer_bad c.requires.0 g.directory.now a.label.now a.o (value_of a.c) a.side c.find.ensures
     c.in-Ok.is c.is_skipped.ensures c.if-is_skipped.false
     c.is_joined.ensures c.if-is_joined.false

@@ -17,20 +17,21 @@ use Rattle.judging.proofs.standing.test_label.Goals.{in-BadStep, in-Fine}
 pub loop-o-init : goal.loop-o-init
 loop-o-init c =
     let a = c.args in
+    let g = a.graph.now in
     record {
       none = refl;
       testing = testing_start a.label.now c.requires.0;
-      joining = joining_start a.k (keys_for a.marks.now a.keys.now) (ends a.marks.now) a.label.now c.requires.1.1;
+      joining = joining_start g.k (keys_for a.marks.now g.keys.now) (ends a.marks.now) a.label.now c.requires.1.1;
     }
 
 pub test_window-requires : goal.test_window-requires
 test_window-requires c =
-    let h : c.args.k ≤ length c.args.label.now = c.requires.1.1 in
+    let h : c.args.graph.now.k ≤ length c.args.label.now = c.requires.1.1 in
     (c.loop-o.invariant.testing.ready, plain_bases c.args.label.now c.requires.1.0, omega (arith, c.loop-o-test.true))
 
 pub returns-in-Misplaced : goal.returns-in-Misplaced
 returns-in-Misplaced c =
-    let h : c.args.k ≤ length c.args.label.now = c.requires.1.1 in
+    let h : c.args.graph.now.k ≤ length c.args.label.now = c.requires.1.1 in
     testing_found c.loop-o.invariant.testing (omega (arith, c.loop-o-test.true)) refl
     c.test_window.ensures.placed (ap is_misplaced c.in-Misplaced.is)
 
@@ -38,13 +39,14 @@ pub loop-o-preserved : goal.loop-o-preserved
 loop-o-preserved c =
     let i = c.loop-o.invariant in
     let a = c.args in
-    let h : a.k ≤ length a.label.now = c.requires.1.1 in
-    let inside : c.loop-o.o + a.k ≤ length a.label.now = omega (arith, c.loop-o-test.true) in
+    let g = a.graph.now in
+    let h : g.k ≤ length a.label.now = c.requires.1.1 in
+    let inside : c.loop-o.o + g.k ≤ length a.label.now = omega (arith, c.loop-o-test.true) in
     let next = λ (n : is_misplaced c.test_window.result ≡ false).
     testing_next i.testing (omega (arith, c.loop-o-test.true)) refl c.test_window.ensures.placed n in
     let joined = λ (n : is_misplaced c.test_window.result ≡ false) (worse : Bool)
     (w : worse ≡ (is_bad c.loop-o.found || is_bad c.test_window.result)).
-    joining_next a.k (keys_for a.marks.now a.keys.now) (ends a.marks.now) a.label.now (ok_bounds a.k c.requires.0.ok).0
+    joining_next g.k (keys_for a.marks.now g.keys.now) (ends a.marks.now) a.label.now (ok_bounds g.k c.requires.0.ok).0
     (plain_bases a.label.now c.requires.1.0) c.loop-o.o inside i.joining
     (testing_joined i.testing c.test_window.ensures n) w in
     elim c.match-test_window.branch [
@@ -69,7 +71,8 @@ pub returns : goal.returns
 returns c =
     let i = c.loop-o.invariant in
     let a = c.args in
-    let h : a.k ≤ length a.label.now = c.requires.1.1 in
+    let g = a.graph.now in
+    let h : g.k ≤ length a.label.now = c.requires.1.1 in
     testing_end i.testing (omega (arith, c.loop-o-test.false)) c.loop-o.found i.none
-    (λ done. joining_end a.k (keys_for a.marks.now a.keys.now) (ends a.marks.now) a.label.now i.joining
+    (λ done. joining_end g.k (keys_for a.marks.now g.keys.now) (ends a.marks.now) a.label.now i.joining
     (omega (arith, c.loop-o-test.false)) done)

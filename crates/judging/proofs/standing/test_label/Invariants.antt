@@ -9,6 +9,7 @@ use Rattle.judging.proofs.standing.test_label.Given as goal
 abbrev pub invariant-loop-o : goal.invariant-loop-o
 invariant-loop-o l = record {
   none : is_misplaced l.found ≡ false;
-  testing : Testing l.k l.keys l.initial.marks l.label l.marks l.o;
-  joining : Joining l.k (keys_for l.initial.marks l.keys) (ends l.initial.marks) l.label l.o (is_bad l.found);
+  testing : Testing l.graph.k l.graph.keys.now l.initial.marks l.label l.marks l.o;
+  joining : Joining l.graph.k (keys_for l.initial.marks l.graph.keys.now) (ends l.initial.marks) l.label l.o
+      (is_bad l.found);
 }

@@ -16,16 +16,18 @@ pub label_at-label-requires : goal.label_at-label-requires
 label_at-label-requires c =
     let l = c.loop-at in
     let a = c.args in
-    pass_record a.k a.text.now (breaks2 a.k (keys_for a.marks.now a.keys.now) (ends a.marks.now))
+    let g = a.graph.now in
+    pass_record g.k a.text.now (breaks2 g.k (keys_for a.marks.now g.keys.now) (ends a.marks.now))
     l.invariant.1.passing
     c.loop-at-test.true
 
 pub test_label-requires : goal.test_label-requires
 test_label-requires c =
     let i = c.loop-at.invariant in
-    let a = c.args in (
+    let a = c.args in
+    let g = a.graph.now in (
       i.1.ready,
-      pass_label a.k a.text.now (breaks2 a.k (keys_for a.marks.now a.keys.now)
+      pass_label g.k a.text.now (breaks2 g.k (keys_for a.marks.now g.keys.now)
           (ends a.marks.now)) i.1.passing
           c.loop-at-test.true c.label_at-label.ensures,
     )

@@ -8,7 +8,7 @@ use Rattle.judging.proofs.standing.try_labels.Given as goal
 abbrev pub invariant-loop-at : goal.invariant-loop-at
 invariant-loop-at l =
     (done : List (List ℕ))
-    × Placing l.k l.keys l.initial.marks l.text l.marks done l.bad l.i l.at
+    × Placing l.graph.k l.graph.keys.now l.initial.marks l.text l.marks done l.bad l.i l.at
 
 abbrev pub decreases-loop-at : goal.decreases-loop-at
 decreases-loop-at l = length l.text - l.at

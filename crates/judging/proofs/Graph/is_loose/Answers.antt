@@ -1,6 +1,6 @@
 -- The tests in their order. Assumes nothing.
 use Rattle.judging.proofs.Looked.{sees_kmers, after_small, loose_none, loose_no, loose_on}
-use Rattle.judging.proofs.seeing.is_loose.Goals as goal
+use Rattle.judging.proofs.Graph.is_loose.Goals as goal
 
 pub returns-then-edge_in-gt3 : goal.returns-then-edge_in-gt3
 returns-then-edge_in-gt3 c =
@@ -11,7 +11,8 @@ returns-then-edge_in-gt3 c =
 pub see-y-requires : goal.see-y-requires
 see-y-requires c =
     let a = c.args in
-    (c.requires.0, after_small a.k a.x c.exit-side.result c.after.ensures)
+    let g = a.self.now in
+    (c.requires.0, after_small g.k a.x c.exit-side.result c.after.ensures)
 
 pub is_step-requires : goal.is_step-requires
 is_step-requires c = (c.requires.2, sees_kmers c.requires.0.ok c.see-y.ensures)
