@@ -46,7 +46,7 @@ fn join_keys(n: usize, keys: &mut [u64], m: usize, places: &[u32], new_keys: &[u
     }
 }
 
-// The counts of the same vertices. One function for both would need runs of a width beside `put_in`, and be no plainer.
+// The counts of the same vertices.
 fn join_counts(n: usize, counts: &mut [u32], m: usize, places: &[u32], new_counts: &[u32])
     requires { (n + m ≤ length counts.old) × (m ≤ length places.now) × (m ≤ length new_counts.now)
         × (rising n 0 (take m places.now) ≡ true) }
