@@ -20,7 +20,7 @@ use Rattle.graph.proofs.Sight.{word_of}
 use Rattle.graph.proofs.Adding.{added_keys, added_sound}
 use Rattle.graph.proofs.Accepted.{fit_room, fit_length, fit_sound}
 use Rattle.table.specs.Join.{rising, put_in}
-use Rattle.keysort.specs.Rows.{Row}
+use Rattle.sorting.specs.Rows.{Row}
 use Rattle.adding.specs.Batch.{has_key, tally, tally_rows, new_rows, sorted_new, Grouped, Raised}
 use Rattle.adding.specs.Says.{Addable}
 use Rattle.adding.proofs.Stability.{has_sort, tally_sort}

@@ -14,7 +14,7 @@ use Rattle.graph.specs.Sightings.{Rule}
 use Rattle.graph.specs.Adding.{store_windows}
 use Rattle.graph.proofs.Store.{store_there, store_length}
 use Rattle.graph.proofs.Adding.{store_or}
-use Rattle.keysort.specs.Rows.{Row}
+use Rattle.sorting.specs.Rows.{Row}
 use Rattle.adding.specs.Batch.{kmer_at, code_at, counted_by, is_new, has_key, tally, tally_rows, new_rows}
 use Rattle.adding.proofs.Each.{Each, each_weaker, each_append}
 use Rattle.adding.proofs.Tallies.{or_absorbs, has_append, has_snoc, tally_append}

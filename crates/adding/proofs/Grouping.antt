@@ -15,7 +15,7 @@ use Rattle.graph.specs.Sightings.{Rule}
 use Rattle.graph.specs.Table.{keys_of}
 use Rattle.graph.proofs.Rank.{stored_nil}
 use Rattle.graph.proofs.Fit.{fit_nil}
-use Rattle.keysort.specs.Rows.{rows, key_at, row_at}
+use Rattle.sorting.specs.Rows.{rows, key_at, row_at}
 use Rattle.adding.specs.Batch.{counted_by, has_key, Grouped}
 use Rattle.adding.specs.Says.{put_key, Listed}
 use Rattle.adding.proofs.Rowing.{put_other, put_key_lem, rows_next}

@@ -15,8 +15,8 @@ use Rattle.graph.specs.Sightings.{Rule, windows}
 use Rattle.graph.proofs.Lookup.{Key}
 use Rattle.graph.proofs.Adding.{window_key}
 use Rattle.sorting.proofs.Ordered.{sort_length}
-use Rattle.keysort.specs.Rows.{Row, comes_first, key_at, row_at, rows, has_rows, Sorts}
-use Rattle.keysort.proofs.Columns.{rows_at}
+use Rattle.sorting.specs.Rows.{Row, comes_first, key_at, row_at, rows, has_rows, Sorts}
+use Rattle.sorting.proofs.Columns.{rows_at}
 use Rattle.adding.specs.Batch.{code_at, new_rows, sorted_new, Gathers, Grouped}
 use Rattle.adding.specs.Says.{Given, Rowed, Listed}
 use Rattle.adding.proofs.Each.{each_at, each_sort}

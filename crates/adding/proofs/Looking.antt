@@ -10,7 +10,7 @@ use Rattle.std.specs.Prelude.{Option, Some, None}
 use Rattle.kmer.specs.Says.{value_of}
 use Rattle.graph.specs.Table.{rank, stored}
 use Rattle.graph.specs.Sightings.{Rule}
-use Rattle.keysort.specs.Rows.{rows}
+use Rattle.sorting.specs.Rows.{rows}
 use Rattle.adding.specs.Batch.{kmer_at, code_at, note_at, new_rows, Looked, Gathers}
 use Rattle.adding.specs.Says.{put_key, Sees, SeesBefore}
 use Rattle.adding.specs.declared.Seen.{Seen}

@@ -11,7 +11,7 @@ use Rattle.lemmas.proofs.Numbers.{lt_or_ge}
 use Rattle.kmer.specs.Kmer.{low, high, joined}
 use Rattle.kmer.proofs.Wide.{joined_of}
 use Rattle.graph.specs.Table.{keys_of}
-use Rattle.keysort.specs.Rows.{Row, rows, key_at, row_at}
+use Rattle.sorting.specs.Rows.{Row, rows, key_at, row_at}
 use Rattle.adding.specs.Says.{put_key}
 
 -- One cell more that holds what it should.

@@ -12,7 +12,7 @@ use Rattle.lemmas.proofs.Tests.{choose, both, or_first, never}
 use Rattle.lemmas.proofs.Numbers.{true_or_false}
 use Rattle.sorting.specs.Index.{put_by, sort_by}
 use Rattle.graph.specs.Sightings.{Rule}
-use Rattle.keysort.specs.Rows.{Row, comes_first}
+use Rattle.sorting.specs.Rows.{Row, comes_first}
 use Rattle.adding.specs.Batch.{has_key, counted_by, code_at, tally_rows}
 use Rattle.adding.proofs.Each.{Each, each_put, each_sort, each_weaker}
 

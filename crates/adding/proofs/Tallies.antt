@@ -9,7 +9,7 @@ use borrow.Author.Tests.{eq-eqb, ne_eqb}
 use Rattle.lemmas.proofs.Tests.{or_first, or_second}
 use Rattle.state.specs.Counted.{Kind}
 use Rattle.graph.specs.Sightings.{Rule}
-use Rattle.keysort.specs.Rows.{Row}
+use Rattle.sorting.specs.Rows.{Row}
 use Rattle.adding.specs.Batch.{counted_by, has_key, code_at, tally_rows}
 
 -- A test that holds only where the first does adds nothing.

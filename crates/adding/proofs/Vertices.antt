@@ -17,7 +17,7 @@ use Rattle.graph.specs.Sightings.{Rule}
 use Rattle.graph.specs.Table.{keys_of, rank, stored}
 use Rattle.graph.proofs.Lookup.{at_stored, key_inj}
 use Rattle.table.proofs.Keys.{key_is}
-use Rattle.keysort.specs.Rows.{Row, key_at}
+use Rattle.sorting.specs.Rows.{Row, key_at}
 use Rattle.adding.specs.Batch.{counted_by, has_key, code_at, tally_rows, Grouped}
 use Rattle.adding.specs.Says.{put_key}
 use Rattle.adding.proofs.Rowing.{set_more, keys_put}

@@ -15,7 +15,7 @@ use Rattle.table.specs.declared.FitError.{FitError}
 use Rattle.table.specs.declared.FitError.TheVariants as fit
 use Rattle.table.specs.declared.JoinError.{JoinError}
 use Rattle.table.specs.declared.JoinError.TheVariants as join
-use Rattle.keysort.specs.Rows.{key_at}
+use Rattle.sorting.specs.Rows.{key_at}
 use Rattle.adding.specs.Batch.{code_at}
 use Rattle.adding.specs.declared.Seen.{Seen}
 use Rattle.adding.specs.declared.Mode.{Mode}

@@ -73,7 +73,8 @@ impl<const WINDOWS: usize, const WORDS: usize> Fresh<WINDOWS, WORDS> {
     }
 
     // Of each window what is noted and the place of its k-mer; of the new ones the k-mers and offsets, and how many
-    // they are.
+    // they are. It is not inlined, so that the cells have left the stack when the rows are sorted.
+    #[inline(never)]
     pub(crate) fn gather(
         &mut self,
         mode: Mode,

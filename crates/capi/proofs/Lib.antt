@@ -1,2 +1,3 @@
 pub mod Noting
+pub mod Answering
 pub mod Telling

@@ -32,8 +32,11 @@ pub(crate) trait Tell {
 pub(crate) fn note(values: &[u64], figures: &mut [u64])
     ensures { figures.new ≡ noted values.now figures.old }
 {
-    let n = values.len().min(figures.len());
-    figures[..n].copy_from_slice(&values[..n]);
+    for (i, &value) in values.iter().enumerate() {
+        if i < figures.len() {
+            figures[i] = value;
+        }
+    }
 }
 
 impl<T: Tell, E: Tell> Tell for Result<T, E> {

@@ -1,12 +1,17 @@
--- What was answered was in range; what a call for both parts answers, part by part. Assumes nothing.
+-- What was answered was in range; what a call for both parts answers, part by part; two parts in one word. Assumes
+-- nothing.
 use mathlib.Core.Path.{◌≡◌, refl, ap}
 use mathlib.Core.Bool.{Bool, true, false}
 use mathlib.Core.List.{[]}
-use Prim.Native.Nat.{ℕ, ◌^◌}
+use Prim.Native.Nat.{ℕ, ◌*◌, ◌%◌, ◌^◌, ◌≤◌, ◌<◌}
+use native.Mathlib.Omega.{arith}
+use borrow.Author.Tests.{lt-ltb}
+use lib.Bits.{bit_or, or_shifted_r}
 use lib.Dec.{ltb}
+use lib.Pow.{shl_exact}
 use Rattle.dna.specs.Answer.{gives, refuses}
 use Rattle.colours.specs.Packed.{worker_in, index_in, in_range}
-use Rattle.colours.specs.Packed.{worker_call, index_call, parts_call}
+use Rattle.colours.specs.Packed.{discovered_call, worker_call, index_call, parts_call}
 
 -- What was answered was in range, and what was refused was not.
 pub answered : {A : Type 0} (t : Bool) {x y : A} → in_range t (gives x) ≡ gives y → (t ≡ true) × (x ≡ y)
@@ -37,3 +42,12 @@ module _ (coordinate : ℕ) where
 
   pub index_none : index_call coordinate ≡ refuses 22 [] → parts_call coordinate ≡ refuses 22 []
   index_none h = rw (refused fits (index_in coordinate) h)
+
+module _ (worker index : ℕ) where
+  pub discovers : worker ≤ 255 → index ≤ 4294967295
+      → gives (bit_or worker ((index * 2 ^ 8) % 2 ^ 64)) ≡ discovered_call worker index
+  discovers w i =
+      let u : worker < 2 ^ 8 = omega arith in
+      let v : index < 2 ^ 32 = omega arith in
+      let s = shl_exact {a = index} 32 8 64 v (omega arith) in
+      rw (lt-ltb worker (2 ^ 8) u, lt-ltb index (2 ^ 32) v, s, or_shifted_r index 8 worker u)

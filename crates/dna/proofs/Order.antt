@@ -112,6 +112,11 @@ before_at (x ∷ a) (y ∷ b) zero ha hb f h = head_less a b h
 before_at (x ∷ a) (y ∷ b) (suc m) ha hb f h =
     head_same a b (f 0 (omega arith)) ∙ before_at a b m (omega arith) (omega arith) (λ t l. f (suc t) (omega arith)) h
 
+-- The second is smaller there.
+pub after_at : (a b : List ℕ) (m : ℕ) → m < length a → m < length b → Alike a b m → get_or b m 0 < get_or a m 0
+    → before a b ≡ false
+after_at a b m ha hb f h = before_asym b a (before_at b a m hb ha (λ t l. sym (f t l)) h)
+
 -- They are alike as far as both go: the shorter stands before the longer.
 pub before_end : (a b : List ℕ) (m : ℕ) → Alike a b m → (length a ≤ m) ⊎ (length b ≤ m) → before a b ≡ ltb (length a) (length b)
 unfolding before

@@ -33,14 +33,17 @@ fn has_room(lengths: &[u32], count: usize, room: usize) -> bool
     true
 }
 
-// The record of one label, from the first cell on; its size.
+// The record of one label, from the first cell on; its size. The letters by a loop: `copy_from_slice` would want
+// `memmove` of whoever links the library.
 fn write_record(label: &[u8], out: &mut [u8]) -> usize
     requires { length label.now + 4 ≤ length out.old }
     ensures { (result ≡ length label.now + 4) × (out.new ≡ over (record_of label.now) out.old) }
 {
     let n = label.len();
     out[..3].copy_from_slice(b">0\n");
-    out[3..3 + n].copy_from_slice(label);
+    for i in 0..n {
+        out[3 + i] = label[i];
+    }
     out[3 + n] = b'\n';
     n + 4
 }

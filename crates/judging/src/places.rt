@@ -6,7 +6,9 @@ ghost use Rattle.judging.specs.Places.{LineEnds, is_held, Recorded, Spans};
 
 use super::Span;
 
-// The first newline from a place on, or the text's end.
+// The first newline from a place on, or the text's end. Never inlined: where it is, the loop over a label's letters may
+// keep its place in memory, which took half as long again.
+#[inline(never)]
 fn line_end(text: &[u8], at: usize) -> usize
     requires { at ≤ length text.now }
     ensures { LineEnds text.now at result }

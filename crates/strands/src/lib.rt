@@ -22,12 +22,23 @@ pub fn turn(label: &mut [u8])
     }
 }
 
-// Whether the other strand comes first in byte order.
+// Whether the other strand comes first in byte order. By place: the library's `cmp` of two iterators took twice as long
+// where the strands are alike.
 pub fn is_above(label: &[u8]) -> bool
     ensures { result ≡ before (reverse_complement label.now) label.now }
 {
-    let other = label.iter().rev().map(|byte| complement_ascii(*byte));
-    other.cmp(label.iter().copied()).is_lt()
+    let n = label.len();
+    for i in 0..n {
+        let x = complement_ascii(label[n - 1 - i]);
+        let y = label[i];
+        if x < y {
+            return true;
+        }
+        if y < x {
+            return false;
+        }
+    }
+    false
 }
 
 // The smaller of a label and its reverse complement.
