@@ -1,5 +1,5 @@
 // The run list of a label: words that each hold a run.
-ghost use Rattle.std.specs.Prelude.{◌≡◌, true, ◌≤◌, length};
+ghost use Rattle.std.specs.Prelude.{◌≡◌, true, ◌≤◌, length, replicate};
 ghost use Rattle.dna.specs.Text.{over};
 ghost use Rattle.colours.specs.Packed.{offset_in, coordinate_in};
 ghost use Rattle.colours.specs.Runs.{sound_runs, last_by, colors_from, check_call, color_call, colors_call};
@@ -51,6 +51,20 @@ fn last_by(runs: &[u64], kmers: usize, vertex: usize) -> ColorCoordinate
     UnitigColor(runs[behind - 1]).coordinate()
 }
 
+// Every cell the colour. As compiled, the loop stores four cells at a time, where std's `fill`, which stores the last
+// apart, would store four one by one. A single cell goes without the loop, which takes longer for one.
+fn paint(cells: &mut [u64], color: u64)
+    ensures { cells.new ≡ replicate (length cells.old) color }
+{
+    if cells.len() == 1 {
+        cells[0] = color;
+        return;
+    }
+    for i in 0..cells.len() {
+        cells[i] = color;
+    }
+}
+
 // The colours at all vertices, run by run: each up to where the next begins, the last up to the label's end.
 fn paint_runs(runs: &[u64], kmers: usize, out: &mut [u64])
     requires { (sound_runs kmers runs.now ≡ true) × (kmers ≤ length out.old) }
@@ -60,11 +74,11 @@ fn paint_runs(runs: &[u64], kmers: usize, out: &mut [u64])
     let mut from = 0;
     for &run in &runs[1..] {
         let to = start_of(run);
-        out[from..to].fill(color);
+        paint(&mut out[from..to], color);
         color = color_of(run);
         from = to;
     }
-    out[from..kmers].fill(color);
+    paint(&mut out[from..kmers], color);
 }
 
 // Whether a label with so many k-mers may have this run list: at least one run, the offsets strictly ascending, the

@@ -25,10 +25,10 @@ loop-run-preserved c =
     let i = c.loop-run.run-index in
     let here : i + 1 < length runs = omega (arith, rest_length runs) in
     painting_more c.loop-run.invariant here _ (c.start_of-to.ensures ∙ ap offset_in (rest_at runs i))
-    _ (c.fill.ensures.after (λ _ h. h)) _ (c.color_of-color-in-loop-run.ensures ∙ ap coordinate_in (rest_at runs i))
+    _ c.paint.ensures _ (c.color_of-color-in-loop-run.ensures ∙ ap coordinate_in (rest_at runs i))
 
 pub returns : goal.returns
 returns c =
     let runs = c.args.runs.now in
     let end : length runs ≤ c.loop-run.run-index + 1 = omega (arith, rest_length runs) in
-    painting_all c.loop-run.invariant end _ (c.fill-2.ensures.after (λ _ h. h))
+    painting_all c.loop-run.invariant end _ c.paint-2.ensures
